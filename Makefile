@@ -54,7 +54,7 @@ help:
 	@echo "make refuse     the part of it that refuses each allocation of the commands in turn (some minutes)"
 	@echo "make spaces     compares mta_lab on 2,500 random programs with a search of all states by a machine of the tests' own (two minutes)"
 	@echo "make pages      the pages in a browser; needs chromium, its driver and Python's selenium, and says what is missing (some minutes)"
-	@echo "make editors    mta_lab dap by a client that others' library makes; needs Go and Debian's go-dap, and says what is missing (seconds)"
+	@echo "make editors    the syntax files, asked by the editors that read them; mta_lab dap by a client that others' library makes. Says what is missing (seconds)"
 	@echo "make bench      time, instructions and peak memory on the longest inputs (some minutes; valgrind counts instructions)"
 	@echo "make install    puts the built programs, their examples and documents under PREFIX, $(PREFIX) (a second)"
 	@echo "make uninstall  takes away what make install has put there (a second)"
@@ -162,8 +162,10 @@ spaces: built
 	@python3 tests/spaces
 	@python3 tests/spaces/slips.py
 
-# tries mta_lab dap by a client of the Debug Adapter Protocol on a library that others wrote
+# what Vim, Neovim, Emacs, Pygments and pandoc take each part of a source text for; then mta_lab dap by a client of the Debug
+# Adapter Protocol on a library that others wrote
 editors:
+	@python3 tests/editor_files.py
 	@tests/adapter_go/run.sh
 
 # the pages in headless Chromium: their states, controls, texts, sizes and widths; installs nothing. Without a browser
@@ -193,6 +195,11 @@ install:
 	install -m 644 share/schema/*.json $(SHARE)/mta_sim/schema
 	install -d $(SHARE)/doc/mta_sim/docs
 	cp -r examples exercises editors $(SHARE)/doc/mta_sim
+	rm -r $(SHARE)/doc/mta_sim/editors/make
+	install -d $(SHARE)/vim/vimfiles $(SHARE)/nvim/site
+	cp -r editors/vim/. $(SHARE)/vim/vimfiles
+	cp -r editors/vim/. $(SHARE)/nvim/site
+	install -D -m 644 editors/emacs/mta-mode.el $(SHARE)/emacs/site-lisp/mta-mode.el
 	install -m 644 README.md CONTRIBUTING.md CHANGELOG.md $(SHARE)/doc/mta_sim
 	install -m 644 docs/*.md $(SHARE)/doc/mta_sim/docs
 	test ! -e out/TRUST.md || install -m 644 out/TRUST.md $(SHARE)/doc/mta_sim/docs
@@ -205,6 +212,10 @@ uninstall:
 	rm -f $(SHARE)/zsh/site-functions/_mta_sim $(SHARE)/fish/vendor_completions.d/mta_sim.fish
 	rm -f $(SHARE)/zsh/site-functions/_mta_lab $(SHARE)/fish/vendor_completions.d/mta_lab.fish
 	rm -f $(SHARE)/rlwrap/completions/mta_lab
+	for folder in vim/vimfiles nvim/site; do \
+	  for file in ftdetect/mta.vim ftplugin/mta.vim syntax/mta.vim compiler/mta_lab.vim; do rm -f $(SHARE)/$$folder/$$file; done; \
+	done
+	rm -f $(SHARE)/emacs/site-lisp/mta-mode.el
 	rm -rf $(SHARE)/doc/mta_sim $(SHARE)/mta_sim
 
 clean:

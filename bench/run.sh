@@ -114,7 +114,7 @@ search() {
 play() {
   local name out=$work/page.html states
   name=$(basename "$1" .asm)
-  "$lab" play "$1" --out "$out"
+  "$lab" play "$1" --out "$out" >"$work/out"
   states=$(sed -nE 's/.*"counted":\{"states":([0-9]+),.*/\1/p' "$out")
   report "lab: play $name, $states states, $(stat -c %s "$out") bytes" "$(best 3 "$lab" play "$1" --out "$out")" \
     "$(instructions "$lab" play "$1" --out "$out")" "$states" state "$(peak "$lab" play "$1" --out "$out")"

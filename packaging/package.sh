@@ -71,7 +71,7 @@ pages() {
   mkdir "$1/pages"
   for schedule in "$1"/examples/*.schedule; do
     name=$(basename "$schedule" .schedule)
-    "$(built mta_lab)" page "$1/examples/${name%%.*}.asm" "$schedule" --out "$1/pages/$name.html"
+    "$(built mta_lab)" page "$1/examples/${name%%.*}.asm" "$schedule" --out "$1/pages/$name.html" >/dev/null
   done
 }
 
@@ -83,7 +83,7 @@ play_pages() {
     name=$(basename "$source" .asm)
     case $name in
       barrier | bounded_buffer | philosophers | readers_writer) ;;
-      *) "$(built mta_lab)" play "$source" --out "$1/pages/$name.play.html" ;;
+      *) "$(built mta_lab)" play "$source" --out "$1/pages/$name.play.html" >/dev/null ;;
     esac
   done
 }
@@ -92,7 +92,7 @@ play_pages() {
 lay_out_archive() {
   local name
   mkdir -p "$1/bin"
-  git archive HEAD README.md CONTRIBUTING.md CHANGELOG.md docs examples exercises editors share ':(exclude)share/make' | tar -x -C "$1"
+  git archive HEAD README.md CONTRIBUTING.md CHANGELOG.md docs examples exercises editors share ':(exclude)share/make' ':(exclude)editors/make' | tar -x -C "$1"
   python3 tests/trust "$1/docs/TRUST.md"
   for name in $programs; do
     strip_symbols "$(built "$name")" "$1/bin/$name"
@@ -119,6 +119,11 @@ lay_out_debian() {
   done
   # the words of mta_lab debug, which rlwrap completes
   install -D -m 644 "$from/share/completions/mta_lab.rlwrap" "$share/rlwrap/completions/mta_lab"
+  # where Vim, Neovim and Emacs look
+  mkdir -p "$share/vim/vimfiles" "$share/nvim/site" "$share/emacs/site-lisp"
+  cp -r "$from/editors/vim/." "$share/vim/vimfiles"
+  cp -r "$from/editors/vim/." "$share/nvim/site"
+  cp "$from/editors/emacs/mta-mode.el" "$share/emacs/site-lisp"
   # Debian has the changes packed, under a name of its own
   sed 's/CHANGELOG\.md/changelog.gz/' "$from/README.md" >"$doc/README.md"
   cp -r "$from/CONTRIBUTING.md" "$from/docs" "$from/examples" "$from/exercises" "$from/pages" "$from/editors" "$from/BUILD" "$doc"
@@ -161,6 +166,7 @@ if command -v dpkg-deb >/dev/null; then
 else
   echo "no dpkg-deb here, so no Debian package"
 fi
+cp "$room/$package/COPYRIGHT" "$room/$package/editors/vscode/COPYRIGHT.txt"
 packaging/vsix.py "$room/$package/editors/vscode" "out/dist/mta-sim-$version.vsix"
 echo "out/dist/mta-sim-$version.vsix"
 cat "$room/$package/BUILD"

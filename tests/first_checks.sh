@@ -79,14 +79,24 @@ described() {
   done
 }
 
-# wrong_bodies: edits that make test tries, and that docs/PROMISES.md does not name for their crate
+# wrong_bodies: edits that make test tries, and that docs/PROMISES.md does not name for their crate; and names of three words
+# or more in its table of edits that no edit of the row's crates has
 wrong_bodies() {
-  local file crate name
+  local file crate name row crates
   for file in crates/*/must-fail/*.edit; do
     crate=$(echo "$file" | cut -d / -f 2)
     name=$(basename "$file" .edit)
     grep "^| \`$crate\` | " docs/PROMISES.md | grep -qF "\`$name\`" || echo "docs/PROMISES.md: no $name of $crate"
   done
+  while read -r row; do
+    crates=$(sed 's/ |$//; s/.* | //' <<<"$row" | tr -d '`,')
+    for name in $(grep -oE '`[a-z0-9]+(_[a-z0-9]+){2,}`' <<<"$row" | tr -d '`'); do
+      for crate in $crates; do
+        [ ! -e "crates/$crate/edits/$name.edit" ] || continue 2
+      done
+      echo "docs/PROMISES.md: no edit $name of its row's crates"
+    done
+  done < <(sed -n '/^| wrong body under `edits/,/^$/p' docs/PROMISES.md | grep '`')
 }
 
 # about_crates: crates without a README.md, names in one that are not in the crate's src, and calls that do not stand in

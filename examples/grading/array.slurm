@@ -2,10 +2,13 @@
 #SBATCH --job-name=mta_lab
 #SBATCH --cpus-per-task=1
 #SBATCH --mem=1G
-#SBATCH --time=00:05:00
-# judges one submission a task by every schedule; its line goes to a file of its own (docs/GRADING.md)
+#SBATCH --time=01:00:00
+# judges a part of the submissions by every schedule: as many parts as the array has tasks, or PARTS where a task alone is
+# started again; the results of each part go to a file of its own, and a task goes on where it stopped (docs/GRADING.md)
 set -eu
-submissions=(submissions/*.asm)
-line=grades.$SLURM_ARRAY_TASK_ID.tsv
-mta_lab grade --explore --seconds 120 --memory 500 --expect wanted.expect "${submissions[SLURM_ARRAY_TASK_ID - 1]}" >"$line" ||
-  [ -s "$line" ] # the status is 0 only of one that is right; the task has failed if there is no line
+part=$SLURM_ARRAY_TASK_ID
+parts=${PARTS:-$SLURM_ARRAY_TASK_COUNT}
+status=0
+mta_lab grade --explore --seconds 120 --memory 500 --jobs 1 --expect wanted.expect \
+  --part "$part/$parts" --results "part.$part.jsonl" submissions/*.asm >"part.$part.txt" || status=$?
+[ "$status" -le 5 ] # a status up to 5 says how the submissions are; the task has failed if mta_lab was killed

@@ -50,7 +50,7 @@ function setGoal(e) {
   stop();
   view.goal = e;
   view.ahead = e === null;
-  Object.assign(view, { hints: 0, shown: null, hinted: null, at: 0 });
+  Object.assign(view, { hints: 0, shown: null, hinted: null, vote: null, at: 0 });
   way = [];
   refresh();
 }
@@ -66,7 +66,8 @@ function hint() {
     return say([html("b", {}, "Hint: "), `from here no schedule reaches your goal. Undo ${steps(view.at - n)}.`]);
   }
   view.hinted = shortestWay(here(), view.goal)[0];
-  return say([html("b", {}, "Hint: "), `take a step of ${names[view.hinted]}. Your goal is ${steps(left)} away.`]);
+  return say([html("b", {}, "Hint: "), `take a step of ${names[view.hinted]}. Your goal is ${steps(left)} away.`,
+    ...whyParts(here(), view.goal, view.hinted)]);
 }
 
 /** Tells something in place of the step. */

@@ -31,8 +31,9 @@ const KEYS = {
   ArrowLeft: () => goTo(view.at - 1), ArrowRight: () => goTo(view.at + 1), Backspace: () => goTo(view.at - 1),
   Home: () => goTo(0), End: () => goTo(way.length), h: hint, b: () => data.ends.length > 1 && setAhead(), x: setHex,
     c: openTexts,
-  " ": pause, "?": () => byId("keys").showModal(),
+  l: setLecture, n: skip, v: vote, " ": pause, "?": () => byId("keys").showModal(),
 };
+const VOTE_KEYS = { Backspace: takeVoteBack, Escape: stopVote };
 
 function onKey(event) {
   if (event.ctrlKey || event.metaKey || event.altKey || byId("keys").open || byId("texts").open) return;
@@ -43,6 +44,7 @@ function onKey(event) {
     const all = [...list.querySelectorAll("button:not([hidden])")];
     all[all.indexOf(control) + (event.key === "ArrowUp" ? -1 : 1)]?.focus();
   } else if (/^[1-9]$/.test(event.key)) take(Number(event.key) - 1);
+  else if (view.vote && Object.hasOwn(VOTE_KEYS, event.key)) VOTE_KEYS[event.key]();
   else if (Object.hasOwn(KEYS, event.key)) KEYS[event.key]();
   else return;
   event.preventDefault();
@@ -51,7 +53,7 @@ function onKey(event) {
 function listen() {
   addEventListener("keydown", onKey);
   const acts = { reset: KEYS.Home, undo: KEYS.ArrowLeft, redo: KEYS.ArrowRight, hint, ahead: setAhead, hex: setHex,
-    copy: openTexts, help: KEYS["?"],
+    copy: openTexts, help: KEYS["?"], lecture: setLecture, vote, "skip-on": skip,
     "copy-schedule": () => copyText("as-schedule", "The schedule"), "copy-link": () =>
       copyText("as-link", "The link"),
     "copy-result": () => copyText("as-result", "The result") };

@@ -1,14 +1,20 @@
 // ---------------------------------------------------------------- ends and states by kind
 
 const isJudged = data.ends.some((end) => end.right !== null);
-const SIGNS = { right: "✓", plain: "•", wrong: "!", broken: "!", deadlock: "∞", stopped: "×", spinning: "↻" };
+const SIGNS = { right: "✓", plain: "•", found: "?", wrong: "!", broken: "!", deadlock: "∞", stopped: "×",
+  spinning: "↻" };
+/** The kind of an end. Where nothing is judged, one whose shortest schedule has a finding is `found`. */
 function kindOf(end) {
   if (end.kind !== "finished") return end.kind;
-  return end.right === null ? "plain" : end.right ? "right" : "wrong";
+  if (end.right !== null) return end.right ? "right" : "wrong";
+  return end.findings.length ? "found" : "plain";
 }
 const kinds = data.ends.map(kindOf);
 const rightEnds = data.ends.flatMap((end, e) => (end.right ? [e] : []));
 const isBad = (e) => kinds[e] === "wrong" || kinds[e] === "broken";
+
+/** A word by its name; by its address where it has none. */
+const shortName = (a) => givenName(a) || wordName(a);
 
 /** [address, value before, value] of each word of a state that differs from the start. */
 const changedWords = (w) => [...wordMap(w)].map(([a, [value]]) => [a, startWord(a)[0], value]);
@@ -63,8 +69,9 @@ function labelled() {
 function withTags(label, tags) {
   const parts = label.split(", ");
   for (const [a, text] of tags) {
-    const at = parts.findIndex((part) => part.includes(`[${a}]=`));
-    if (at < 0) parts.push(`[${a}] ${text}`);
+    const name = shortName(a);
+    const at = parts.findIndex((part) => part.split(" ").some((piece) => piece.startsWith(`${name}=`)));
+    if (at < 0) parts.push(`${name} ${text}`);
     else parts[at] += ` ${text}`;
   }
   return parts.join(", ");
@@ -80,9 +87,9 @@ function labelOf(end, e) {
   const who = end.waiting.map(([name]) => name).join(", ");
   const isByWho = new Set(alike.map((other) => JSON.stringify(other.waiting))).size > 1;
   if (!telling.length && !(isByWho && who)) noteTags(end, alike);
-  const differing = telling.map((a) => `[${a}]=${valueIn(end, a)}`).join(", ")
-    || end.tags.slice(0, 3).map(([a, tags]) => `[${a}] ${tags}`).join(", ");
-  const first = end.words.slice(0, 2).map((word) => `[${word[0]}]=${word[2]}`).join(", ");
+  const differing = telling.map((a) => `${shortName(a)}=${valueIn(end, a)}`).join(", ")
+    || end.tags.slice(0, 3).map(([a, tags]) => `${shortName(a)} ${tags}`).join(", ");
+  const first = end.words.slice(0, 2).map((word) => `${shortName(word[0])}=${word[2]}`).join(", ");
   if (end.kind === "finished") return differing || `finished ${first}`.trim();
   const waits = isByWho && who ? [`${who} ${end.waiting.length > 1 ? "wait" : "waits"}`] : [];
   const texts = [...waits, ...(differing ? [differing] : [])].join(", ");

@@ -34,8 +34,11 @@ function makeLayout() {
   return { layers, at, most: Math.max(...layers.map((layer) => layer.length)) };
 }
 
+/** What the map draws a state as: one that breaks a claim is wrong, whatever can still come. */
+const mapClass = (w) => (kinds[endIn.get(w)] === "broken" ? "wrong" : stateClass(w));
+
 function shape(w, size) {
-  const kind = isAheadShown() || endIn.has(w) ? stateClass(w) : "plain";
+  const kind = isAheadShown() || endIn.has(w) ? mapClass(w) : "plain";
   const e = endIn.get(w);
   const r = e === undefined ? 5.5 * size : 9;
   if (kind === "dead") return svg("rect", { class: "shape", x: -r, y: -r, width: 2 * r, height: 2 * r, rx: 1 });
@@ -45,10 +48,13 @@ function shape(w, size) {
   return svg("circle", { class: "shape", r });
 }
 
+/** How wide the map may be. */
+const mapRoom = () => Math.max(260, (byId("graph").clientWidth - 16) / scale());
+
 /** Where the map puts each state, and how large it is. */
 function mapLayout() {
   layout ??= makeLayout();
-  const room = Math.max(260, byId("graph").clientWidth - 16);
+  const room = mapRoom();
   const deep = layout.layers.length - 1;
   const dx = Math.max(11, Math.min(74, (room - 40) / Math.max(1, deep)));
   const dy = Math.max(15, Math.min(30, DRAWN_HEIGHT / layout.most));
@@ -92,7 +98,7 @@ function mapState(w, { x, y, size }) {
   const e = endIn.get(w);
   const isHere = w === here();
   const isPlain = !isAheadShown() && e === undefined;
-  const node = svg("g", { class: `state ${isPlain ? "plain" : stateClass(w)}${isHere ? " here" : ""}`,
+  const node = svg("g", { class: `state ${isPlain ? "plain" : mapClass(w)}${isHere ? " here" : ""}`,
     transform: `translate(${x(w)} ${y(w)})`, "data-state": w },
   svg("circle", { class: "halo", r: (isHere ? 13 : 9) * (e === undefined ? size : 1) }), shape(w, size));
   if (e !== undefined) node.append(svg("text", { class: "letter", y: 4 }, SIGNS[kinds[e]]));
@@ -104,8 +110,8 @@ function drawGraph() {
   const { plain, next, redo, path, keys } = mapSteps(places);
   const states = Array.from({ length: N }, (_, w) => mapState(w, places));
   states.push(states[here()]); // on top of the others
-  byId("graph").replaceChildren(svg("svg", { class: "pic", width: places.width, height: places.height },
-    ...plain, ...next, ...redo, ...path, ...states, ...keys));
+  byId("graph").replaceChildren(picture("pic", places.width, places.height, ...plain, ...next, ...redo, ...path,
+    ...states, ...keys));
 }
 
 /** Of a large graph: how many states there are after so many steps, by what can still come,
@@ -124,8 +130,9 @@ function makeBands() {
 
 function drawBands() {
   bands ??= makeBands();
-  const room = Math.max(260, byId("graph").clientWidth - 16);
+  const room = mapRoom();
   const dx = (room - 20) / bands.length;
+  const gap = [1, 5, 10, 20, 50, 100, 200, 500, 1000].find((n) => n * dx > 26) ?? 5000;
   const tall = 110;
   const total = (layer) => CLASS_ORDER.reduce((sum, name) => sum + layer[name], 0);
   const most = Math.max(...bands.map(total));
@@ -144,7 +151,7 @@ function drawBands() {
       middle.set(`${d} ${name}`, y + height / 2);
       y += height;
     }
-    if (dx > 26 || d % 5 === 0) parts.push(svg("text", { class: "number", x: 10 + (d + 0.5) * dx, y: tall + 14 },
+    if (d % gap === 0) parts.push(svg("text", { class: "number", x: 10 + (d + 0.5) * dx, y: tall + 14 },
       String(d)));
   });
   const at = (w) => [10 + (depthOf[w] + 0.5) * dx,
@@ -153,7 +160,7 @@ function drawBands() {
   if (points.length > 1) parts.push(svg("path", { class: "way", d: `M${points.join("L")}` }));
   const [cx, cy] = at(here());
   parts.push(svg("circle", { class: "dot", cx, cy, r: 6 }));
-  byId("graph").replaceChildren(svg("svg", { class: "pic", width: room, height: tall + 20 }, ...parts));
+  byId("graph").replaceChildren(picture("pic", room, tall + 20, ...parts));
 }
 
 function showMap() {
@@ -165,6 +172,10 @@ function showMap() {
   if (isDrawn) drawGraph();
   else drawBands();
   showLegend();
+  const from = begunSteps ? [", with the same ", code("--from"), ","] : [];
+  byId("explored").replaceChildren(code("mta_lab explore --plain"), ...from,
+    ` visits the same ${count(N, "state", "states")}. Without `, code("--plain"),
+    " it may count fewer: it leaves out states that its ends do not need.");
 }
 
 const LEGEND = { open: isJudged ? "right and wrong" : "several ends", right: "right", wrong: "wrong",

@@ -4,8 +4,9 @@ function outOfReach(n) {
   const lost = lostIn(n);
   if (!isAheadShown() || !lost.length) return [];
   const left = endsAhead(stateAt(n));
-  const isLost = lost.some((e) => data.ends[e].right);
-  const gone = and(lost.map(theLabel));
+  const isRight = (e) => data.ends[e].right;
+  const isLost = lost.some(isRight) && !left.some(isRight);
+  const gone = endsText(lost, theLabel);
   const rest = left.length === 1 ? `: only ${theLabel(left[0])} can come.` : ".";
   const text = `From here ${gone} can’t be reached any more${rest}`;
   return [" ", html("b", { class: isLost ? "lost" : "" }, isLost ? "Point of no return. " : ""), text];
@@ -25,8 +26,8 @@ function tell() {
   const [k] = way[n - 1];
   const before = stateAt(n - 1);
   const { pc } = content(before, k);
-  byId("told").replaceChildren(`Step ${n}: `, html("b", {}, names[k]), " at ", html("b", {}, placeOf(pc)), " ",
-    code(cut(statement(pc), 90)), ": ", ...joined(effectParts(before, k)), ".",
+  byId("told").replaceChildren(...votedParts(), `Step ${n}: `, html("b", {}, names[k]), " at ",
+    html("b", {}, placeOf(pc)), " ", code(cut(statement(pc), 90)), ": ", ...joined(effectParts(before, k)), ".",
     ...foundIn(n).flatMap((finding) => [" ", ...findingParts(finding)]), ...outOfReach(n));
 }
 
@@ -79,6 +80,7 @@ function resultLines(e) {
   const end = data.ends[e];
   const lines = goalLine(e);
   if (end.missed) lines.push(html("li", {}, "Expected: ", code(end.missed), "."));
+  lines.push(...brokenLines(here(), e));
   if (end.kind === "deadlock") {
     names.forEach((name, k) => {
       if (runs(here(), k)) lines.push(html("li", {}, html("b", {}, name), " ",

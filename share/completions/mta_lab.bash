@@ -17,8 +17,9 @@ _mta_lab_options() {
       echo '--expect --from --states --seconds --memory --plain --keep --pages --dot --hex --json --color --help'
       ;;
     grade)
-      echo '--expect --cases --given --seeds --steps --all --explore --states --seconds --memory --jobs --no-links
-        --pages --format --hex --json --color --help'
+      echo '--expect --cases --given --require-names --seeds --steps --all --explore --thorough --states --seconds
+        --memory --jobs --no-links --pages --format --undecided --feedback --hex --json --results --part --merge
+        --color --help'
       ;;
     exercise) echo '--hint --folder --color --help' ;;
     page) echo '--seeds --fair --rounds --seed --steps --title --out --color --help' ;;
@@ -45,14 +46,16 @@ _mta_lab_value() {
     *' --color') echo 'words auto always never' ;;
     *' --seed' | *' --steps' | 'view --from' | 'survey --from' | 'picture --from' | *' --to' | *' --only' | \
       *' --word' | 'survey --seeds' | 'grade --seeds' | *' --states' | *' --seconds' | *' --memory' | *' --jobs' | \
-      *' --hint' | *' --title' | 'word '[0-9]* | 'new 1') echo 'text' ;;
+      *' --part' | *' --hint' | *' --title' | 'word '[0-9]* | 'new 1') echo 'text' ;;
     'explore --from' | 'play --from' | 'view 2' | 'debug 2' | 'compare 2' | 'compare 3' | 'page 2' | 'page 3' | \
       'picture 2') echo 'files .schedule' ;;
     *' --expect') echo 'files .expect' ;;
-    *' --keep' | *' --pages' | *' --cases' | *' --folder') echo 'folders' ;;
+    *' --keep' | *' --pages' | *' --cases' | *' --feedback' | *' --folder') echo 'folders' ;;
     *' --dot') echo 'files .dot' ;;
     *' --given') echo 'files .data' ;;
-    *' --format') echo 'words text tsv json junit gradescope' ;;
+    *' --format') echo 'words text tsv json junit gradescope moodle' ;;
+    *' --undecided') echo 'words right wrong' ;;
+    *' --results') echo 'files .jsonl' ;;
     'page --out' | 'play --out') echo 'files .html' ;;
     'picture --out') echo 'files .svg' ;;
     'asm --out') echo 'files .image' ;;
@@ -60,16 +63,17 @@ _mta_lab_value() {
     'check '[0-9]*) echo 'files .asm .image .schedule .expect' ;;
     'fmt '[0-9]* | 'asm 1') echo 'files .asm' ;;
     'schedule 1') echo 'words rounds fair random' ;;
-    'exercise 1') echo 'words 1 2 3 4 5 6 7 8 9 10 11 12 13' ;;
+    'exercise 1') echo 'words 1 2 3 4 5 6 7 8 9 10 11 12 13 14 15 16 17 18 19 20 21 22 23 24 25 26' ;;
     'explain 1')
       echo 'words .N normal .F future .S sync .T test full empty full/empty r0 t0 SSW status pointer ADD SUB MUL AND
-        OR XOR ANDN SHL SHR SAR TALLY LTS LTU PTR stream processor schedule seed state race lost_update lost ALWAYS
-        EQ NE LT GE LE GT GEU LEU GTU NEG POS OV NOV Z N C V JUMP SKIP CALL XCHG TSET TGET XGET XR RESERVE CREATE
-        QUIT QUITP MASK NOP LIT LITH TLIT .entry .data .fill .word .slim .retry .trap .profile .chain E1 NotAscii E2
-        Unknown E3 Operand E4 Range E5 TwoWriters E6 LabelTwice E7 LabelMissing E8 Directive E9 Limit E10 NoMemory
-        101 102 103 104 105 106 107 108 109 110 111 112 113 114 115 116 LOAD STORE FADD TAGGET TAGSET PURGE 1
-        PROGRAM 2 ILLEGAL 3 TRAP3 4 TRAP4 POINTER 5 ALIGN 6 RANGE 7 TRAP0 8 TRAP1 9 FORWARD 10 TRAP10 DONE BLOCKED
-        TRAPPED STOPPED SKIPPED deadlock spinning'
+        OR XOR ANDN SHL SHR SAR TALLY LTS LTU PTR stream processor schedule seed state race lost_update lost
+        unread_store unread torn_read torn finding waiting waits trap word displacement pc lock complete expectation
+        expect claim ALWAYS EQ NE LT GE LE GT GEU LEU GTU NEG POS OV NOV Z N C V JUMP SKIP CALL XCHG TSET TGET XGET
+        XR RESERVE CREATE QUIT QUITP MASK NOP LIT LITH TLIT .entry .data .fill .word .slim .retry .trap .profile
+        .chain E1 NotAscii E2 Unknown E3 Operand E4 Range E5 TwoWriters E6 LabelTwice E7 LabelMissing E8 Directive
+        E9 Limit E10 NoMemory 101 102 103 104 105 106 107 108 109 110 111 112 113 114 115 116 LOAD STORE FADD TAGGET
+        TAGSET PURGE 1 PROGRAM 2 ILLEGAL 3 TRAP3 4 TRAP4 POINTER 5 ALIGN 6 RANGE 7 TRAP0 8 TRAP1 9 FORWARD 10 TRAP10
+        DONE BLOCKED TRAPPED STOPPED SKIPPED deadlock spinning'
       ;;
   esac
 }

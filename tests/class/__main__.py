@@ -5,7 +5,8 @@ cases. Without names all sources of wanted.tsv are judged, and what differs from
 
   class [--plain] [--seeds N] [--steps N] [--states N] [SOURCE..]
 
---plain looks at all worlds, and not only at some that have all ends."""
+--plain looks at all worlds, and not only at some that have all ends. The table may then have another verdict of what has
+more worlds than are looked at."""
 
 import sys
 
@@ -33,11 +34,17 @@ def judged(path, judge):
     return judge.row(verdicts.Task(task), verdicts.read(path))
 
 
+def differs(found, table, is_plain):
+    """Whether fields differ from those of the table; all worlds may be too many to decide what fewer do."""
+    return any(one != other and not (is_plain and one == verdicts.NOT_DECIDED)
+               for one, other in zip(found, table, strict=True))
+
+
 def main():
     asked = argparse.ArgumentParser(description=__doc__.partition("\n\n")[0])
     asked.add_argument("--plain", action="store_true", help="all worlds")
     asked.add_argument("--seeds", type=int, default=400, help="how many seeds (400)")
-    asked.add_argument("--steps", type=int, default=2000, help="the most steps of a run (2000)")
+    asked.add_argument("--steps", type=int, default=10_000, help="the most steps of a run (10000)")
     asked.add_argument("--states", type=int, default=5000, help="the most worlds (5000)")
     asked.add_argument("sources", nargs="*", metavar="SOURCE")
     asked = asked.parse_args()
@@ -53,7 +60,7 @@ def main():
         for path, found in zip(paths, pool.map(judged, paths, [judge] * len(paths))):
             row = wanted[path]
             table = [row[name] for name in COLUMNS[2:-1]]
-            if found != table:
+            if differs(found, table, asked.plain):
                 wrong += 1
                 print(f"{os.path.relpath(path, verdicts.HERE)}: {found}, and the table has {table}")
     print(f"{len(paths) - wrong} passed, {wrong} failed")

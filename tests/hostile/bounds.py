@@ -73,9 +73,9 @@ def of_messages(tally, folder):
                   ("grade", "--expect", expected, source)):
         ended = lab(*words)
         tally.runs += 1
-        shown = max(ended.err.count(b": error: "), ended.out.count(b'"message"'), ended.out.count(b"source fault"))
-        name = " ".join(os.path.basename(word) for word in words)
-        tally.check(f"{name}: {ended}", ended.status == 1 and 1 <= shown <= 10_001)
+        shown = max(ended.err.count(b": error: "), ended.out.count(b'"object":"message"'), ended.out.count(b"source fault"))
+        name, status = " ".join(os.path.basename(word) for word in words), 3 if words[0] == "grade" else 1
+        tally.check(f"{name}: {ended}", ended.status == status and 1 <= shown <= 10_001)
         tally.check(f"{name} takes {ended.seconds:.1f} s", ended.seconds <= 6)
 
 

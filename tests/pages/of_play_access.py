@@ -75,6 +75,39 @@ def fits(page, text, width, theme):
     page.quiet(what)
 
 
+# two streams that store long numbers into one word, again and again
+LONG_NUMBERS = "\n".join([".entry one", ".entry two", ".data 0", "one: LIT r1, 1234567890", *["STORE.N r1, r0, 0"] * 8, "QUIT",
+                          "two: LIT r1, 4294967290", *["FADD.N r1, r0, 0"] * 3, *["LOAD.N r1, r0, 0"] * 3, "QUIT", ""])
+# the texts of the lanes that lie on each other: of each two in one row, whose boxes meet
+ON_EACH_OTHER = """
+  const rows = new Map();
+  for (const one of document.querySelectorAll('#track text, #heads text')) {
+    const { left, right, top } = one.getBoundingClientRect();
+    const row = `${one.closest('#track, #heads').id} ${one.getAttribute('y')}`;
+    rows.set(row, [...(rows.get(row) ?? []), [left, right, one.lastChild?.textContent ?? '']]);
+  }
+  return [...rows.values()].flatMap((row) => row.sort((a, b) => a[0] - b[0])
+    .flatMap(([left, , text], i) => (i && left < row[i - 1][1] - 0.5 ? [[row[i - 1][2], text]] : [])));
+"""
+
+
+def labels(page):
+    """In lanes of long numbers and many steps no text lies on another one."""
+    source = page.folder / "long_numbers.asm"
+    source.write_text(LONG_NUMBERS)
+    text = runs.played(page.folder, source)
+    for width, height in of_widths.WIDTHS:
+        page.size(width, height)
+        page.open("play_labels", text, "#" + ",".join(["0.0", "1.0"] * 7))
+        page.painted()
+        for what in "14 steps", "a lecture":
+            tally.same(f"play, {width} pixels, {what}: no labels lie on each other", page.script(ON_EACH_OTHER), [])
+            tally.same(f"play, {width} pixels, {what}: no element is outside", page.script(of_widths.OUTSIDE), [])
+            page.press("l")
+        page.quiet(f"play, {width} pixels, labels")
+    page.size(1920, 1080)
+
+
 def hostile(page):
     """A program whose every text is hostile, and a title like it."""
     name = "<img src=x onerror=window.evil=4>"
@@ -109,4 +142,5 @@ def part(page):
             fits(page, text, width, theme)
         of_widths.can_be_read(page, theme)
     page.size(1920, 1080)
+    labels(page)
     hostile(page)

@@ -19,19 +19,18 @@ from of_lab import lab
 
 sys.path += [os.path.join(table.ROOT, "tests/class"), os.path.join(table.ROOT, "tests/spaces")]
 
-import sources  # noqa: E402
 import verdicts  # noqa: E402
 
 CLASS = os.path.join(table.ROOT, "tests/class")
-TASKS = ("counter", "mailbox", "accounts")
+TASKS = ("counter", "mailbox", "accounts", "barrier", "sum", "stack")
 COLUMNS = ("task", "submission", "seeds", "least", "every", "case seeds", "case every", "why")
 # how far each submission is looked at, and in how many seconds the seeds of one are tried
-SEEDS, STEPS, STATES, PATIENCE = 400, 2000, 5000, 0.5
+SEEDS, STEPS, STATES, PATIENCE = 400, 10_000, 5000, 0.5
 BY_SEEDS = ("--seeds", str(SEEDS), "--steps", str(STEPS))
 BY_EVERY = ("--explore", "--states", str(STATES))
 # the seed or the schedule that shows a verdict, in a row of grade
-BEFORE = r"(?:case \w+: )?(?:some schedules, .*, and )?"
-SHOWN = re.compile(BEFORE + r"(?:seed (?P<seed>\d+)|schedule (?P<schedule>[\d ,]+))(?:: |$)")
+BEFORE = r"(?:case \w+: )?(?:\d+\.\d+ waits .*?; )?(?:some schedules, .*, and )?"
+SHOWN = re.compile(BEFORE + r"(?:seed (?P<seed>\d+)|schedule (?P<schedule>[\d ,]+))(?:: |; |$)")
 
 
 def rows_of(name):
@@ -63,7 +62,9 @@ class Wanted:
         if wanted == "not read" and not is_on("only regular files"):
             return "source fault"
         if wanted == "not decided" and is_on("both ways"):
-            return self.of[column.replace("every", "seeds")]
+            # the seeds then decide, but that none of them is wrong does not
+            by_seeds = self.of[column.replace("every", "seeds")]
+            return wanted if by_seeds == "right" else by_seeds
         return wanted
 
 
@@ -120,11 +121,11 @@ def compared(column, *words):
 
 
 def ends_as(wanted, schedule):
-    """What the second judge says of the end of a schedule."""
-    program = sources.read(verdicts.read(wanted.path()))
+    """What the second judge says of a schedule."""
+    submission = verdicts.Submission(verdicts.read(wanted.path()))
     turns = [map(int, turn.split()) for turn in schedule.split(", ")]
-    world = verdicts.search.world_after(program, [(p, s) for p, s, count in turns for _ in range(count)])
-    return verdicts.ended_as(program, verdicts.Task(wanted.task).expected, world)
+    steps = [(p, s) for p, s, count in turns for _ in range(count)]
+    return verdicts.shown_by(submission.program, submission.required(verdicts.Task(wanted.task).text), steps)
 
 
 @checks.others("class/by_seeds")
@@ -143,7 +144,7 @@ def by_every_schedule():
 def rare():
     """Rare mistakes are found by few seeds, each submission in half a second."""
     found = [wanted for wanted in WANTED if wanted.is_rare]
-    yield "rare mistakes", 5, len(found)
+    yield "rare mistakes", 8, len(found)
     for wanted in found:
         yield wanted.name, lambda wanted=wanted: ((True, True), is_found(wanted))
 
@@ -155,8 +156,8 @@ def is_found(wanted):
         begin = time.monotonic()
         ended = lab("survey", wanted.path(), "--seeds", str(SEEDS), "--expect", expected, "--json")
         took.append(time.monotonic() - begin)
-    ends = [json.loads(line) for line in ended.out.decode().splitlines()]
-    seeds = [int(end["seed"]) for end in ends if not end["expected"]]
+    found = [json.loads(line) for line in ended.out.decode().splitlines()]
+    seeds = [int(end["seed"]) for end in found if "end" in end and not end["expected"]]
     return seeds and min(seeds) == int(wanted.of["least"]), min(took) <= PATIENCE or took
 
 
@@ -213,17 +214,20 @@ def of_json(text):
 
 def of_junit(text):
     """A test case that has nothing within is right; else its child's type is the verdict."""
-    suite = ElementTree.fromstring(text).find("testsuite")
-    return [(case.get("name"), case[0].get("type") if len(case) else "right") for case in suite]
+    found = [(suite.get("name"), suite.find("testcase")) for suite in ElementTree.fromstring(text).iter("testsuite")]
+    return [(name, case[0].get("type") if len(case) else "right") for name, case in found]
 
 
 def of_gradescope(text):
-    """The verdict stands before the reason, and who is right has the whole score."""
+    """The verdict stands before the reason. Who is right has the whole score, who is not judged or not decided has none,
+    and the others have 0."""
     found = json.loads(text)["tests"]
-    for test in found:
-        if (test["score"] == test["max_score"]) != test["output"].startswith("right:"):
+    verdicts_found = [test["output"].partition(":")[0] for test in found]
+    for test, verdict in zip(found, verdicts_found):
+        wanted = None if verdict in ("not judged", "not decided") else test.get("max_score", 1) if verdict == "right" else 0
+        if test.get("score") != wanted:
             raise ValueError(test)
-    return [(test["name"], test["output"].partition(":")[0]) for test in found]
+    return [(test["name"], verdict) for test, verdict in zip(found, verdicts_found)]
 
 
 FORMATS = {"tsv": of_tsv, "json": of_json, "junit": of_junit, "gradescope": of_gradescope}

@@ -35,7 +35,7 @@ FOR_PROGRAMS = [["view", "lock.asm", "--json"], ["survey", "lock.asm", "--seeds"
                 ["check", "count.asm", "--json"], ["compare", "lock.asm", "--seeds", "3", "8", "--json"],
                 ["schedule", "fair", "lock.asm"], ["explain", "full"], ["word", "0x28000"], ["fmt", "-"], ["debug", "lock.asm"],
                 *(["grade", "--expect", "grading/wanted.expect", "grading/submissions/locked.asm", "--format", name]
-                  for name in ("tsv", "json", "junit", "gradescope"))]
+                  for name in ("tsv", "json", "junit", "gradescope", "moodle"))]
 QUIT = b"        .entry 0\n        .data 0\n        QUIT                    ; right\n"
 
 

@@ -32,7 +32,7 @@ def judged(exercise, program):
     """What `grade` says of a program by an exercise's cases and every schedule: its verdict, and what shows it."""
     cases = os.path.join(EXERCISES, exercise, "cases")
     said = lab("grade", "--cases", cases, *BY_EVERY, os.path.join(EXERCISES, exercise, program))
-    _, verdict, why = said.out.decode().rstrip("\n").split("\t")
+    _, verdict, why = said.out.decode().splitlines()[-1].split("\t")
     return verdict, why
 
 
@@ -172,7 +172,7 @@ def row_of(folder, exercise, reach):
     """The verdict of `grade` on an exercise's start, what shows it, and the status."""
     path = f"exercises/{exercise}"
     said = lab("grade", "--cases", f"{path}/cases", "--explore", *reach, f"{path}/start.asm", folder=folder)
-    return (*said.out.decode().rstrip("\n").split("\t")[1:], said.status)
+    return (*said.out.decode().splitlines()[-1].split("\t")[1:], said.status)
 
 
 def title_of(exercise):
@@ -188,7 +188,7 @@ def next_after(exercise):
 
 def shown_run(path, why):
     """The commands that show a run, and with which words it is."""
-    found = re.match(r"case (\w+): (?:schedule ([\d ,]+)|(?:.*, and )?seed (\d+))(?:: |$)", why)
+    found = re.match(r"case (\w+): (?:\d+\.\d+ waits .*?; )?(?:schedule ([\d ,]+)|(?:.*, and )?seed (\d+))(?:: |; |$)", why)
     if not found:
         return []
     case, turns, seed = found.groups()

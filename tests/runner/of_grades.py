@@ -1,5 +1,7 @@
 """Grades: cases, formats, submissions side by side, and submissions that are no regular files."""
 
+import csv
+import io
 import json
 import os
 import re
@@ -80,11 +82,85 @@ def unusual():
                 [row.split("\t")[1] for row in rows], [row.count("\t") + 1 for row in rows])
             objects = [json.loads(row) for row in lab(*call, "--json", *names, folder=folder).out.splitlines()]
             yield f"json {words}", list(zip(names, wanted)), [(one["submission"], one["verdict"]) for one in objects]
-            suite = xml.etree.ElementTree.fromstring(lab(*call, "--format", "junit", *names, folder=folder).out)[0]
-            yield f"junit {words}", wanted, ["right" if not len(case) else case[0].get("type") for case in suite]
+            suites = xml.etree.ElementTree.fromstring(lab(*call, "--format", "junit", *names, folder=folder).out)
+            cases = [suite.find("testcase") for suite in suites]
+            yield f"junit {words}", wanted, ["right" if not len(case) else case[0].get("type") for case in cases]
             results = json.loads(lab(*call, "--format", "gradescope", *names, folder=folder).out)
             yield f"gradescope {words}", [int(word == "right") for word in wanted], [
                 test["score"] for test in results["tests"]]
+
+
+# cells, and what is expected with them: values that stand in no text but where they are shown on purpose
+UNUSUAL = {"open": (901234501, 1802469002), "shut": (908765437, 1817530874)}
+COPIES = b" .entry 0\n LOAD.N r1, r0, 0\n ADD r1, r1, 0\n STORE.N r1, r0, 1\n QUIT\n .data 1\n .data 2\n"
+
+
+def written_below(folder):
+    """All texts of the files below a folder."""
+    texts = []
+    for place, _, files in os.walk(folder):
+        texts += [tool.read(os.path.join(place, file)) for file in files]
+    return texts
+
+
+@checks.others("grade/hidden_values")
+def hidden_values():
+    """What students get has no value of a hidden case, and has those of the others; the teacher's rows have both."""
+    for hidden in ("shut", "open"):
+        with tempfile.TemporaryDirectory(prefix="mta-case-") as folder:
+            made(folder, "ann/copies.asm", COPIES)
+            for name, (given, wanted) in UNUSUAL.items():
+                made(folder, f"cases/{name}.data", f" .data {given}\n .data {given - 1}\n".encode())
+                mark = "hidden\n" if name == hidden else ""
+                made(folder, f"cases/{name}.expect", f"points 4\n{mark}word 8 {wanted}\n".encode())
+            shown = next(name for name in UNUSUAL if name != hidden)
+            for words in ((), ("--explore",)):
+                call = ("grade", "--cases", "cases", *words)
+                texts = {name: lab(*call, "--format", name, "ann/copies.asm", folder=folder).out
+                         for name in ("text", "tsv", "json", "junit", "gradescope", "moodle")}
+                lab(*call, "--feedback", "back", "ann/copies.asm", folder=folder)
+                back = written_below(os.path.join(folder, "back"))
+                yield f"{hidden} {words}: files", 2, len(back)
+                for name in ("junit", "gradescope", "moodle"):
+                    back.append(texts[name])
+                numbers = [number for value in UNUSUAL[hidden] for number in (value, value - 1)]
+                spelt = [form(number).encode() for number in numbers for form in (str, "{:x}".format)]
+                yield f"{hidden} {words}: no value", [], [text for text in back for one in spelt if one in text.lower()]
+                seen = str(UNUSUAL[shown][1]).encode()
+                yield f"{hidden} {words}: values of the other", [True] * 3, [seen in texts[name] for name in (
+                    "junit", "gradescope", "moodle")]
+                teacher = json.dumps(json.loads(texts["json"])["cases"]).encode()
+                yield f"{hidden} {words}: all for the teacher", [True, True], [
+                    str(wanted).encode() in teacher for _, wanted in UNUSUAL.values()]
+
+
+@checks.others("grade/points")
+def points():
+    """The points of a submission are those of the cases by which it is right, in each format that has them."""
+    with tempfile.TemporaryDirectory(prefix="mta-case-") as folder:
+        # a program that copies its first word is right by the cases that ask for just this
+        made(folder, "copies.asm", COPIES)
+        worth = {"a": (3, True), "b": (5, False), "c": (0, True), "d": (1000, True), "e": (1, True), "f": (7, False)}
+        for number, (name, (count, is_right)) in enumerate(worth.items()):
+            made(folder, f"cases/{name}.data", f" .data {10 + number}\n .data 0\n".encode())
+            # (a case without a line has one point)
+            line = "" if name == "e" else f"points {count}\n"
+            made(folder, f"cases/{name}.expect", f"{line}word 8 {10 + number + (not is_right)}\n".encode())
+        call = ("grade", "--cases", "cases", "--seeds", "2")
+        wanted = sum(count for count, is_right in worth.values() if is_right)
+        most = sum(count for count, _ in worth.values())
+        one = json.loads(lab(*call, "--json", "copies.asm", folder=folder).out)
+        yield "json", (wanted, most), (one["points"], one["max_points"])
+        rows = [(name, count if is_right else 0, count) for name, (count, is_right) in worth.items()]
+        yield "json by case", rows, [(case["case"], case["points"], case["max_points"]) for case in one["cases"]]
+        tests = json.loads(lab(*call, "--format", "gradescope", "copies.asm", folder=folder).out)["tests"]
+        yield "gradescope", rows, [(test["name"], test["score"], test["max_score"]) for test in tests]
+        table = lab(*call, "--format", "moodle", "9/Ann_B_17_assignsubmission_file_/copies.asm", folder=folder).out
+        yield "moodle, not read", [["Participant 17", "Ann_B", "0", str(most)]], [
+            row[:4] for row in csv.reader(io.StringIO(table.decode(), newline=""))][1:]
+        table = lab(*call, "--format", "moodle", "copies.asm", folder=folder).out
+        yield "moodle", [["", "copies.asm", str(wanted), str(most)]], [
+            row[:4] for row in csv.reader(io.StringIO(table.decode(), newline=""))][1:]
 
 
 @checks.others("grade/side_by_side")
@@ -100,7 +176,7 @@ def side_by_side():
             call = ("grade", *words, "--expect", "w.expect")
             alone = lab(*call, "--jobs", "1", *names, folder=folder)
             for jobs in ("2", "7", "256"):
-                yield f"{words} {jobs}", (1, alone.out), (lambda e: (e.status, e.out))(
+                yield f"{words} {jobs}", (3, alone.out), (lambda e: (e.status, e.out))(
                     lab(*call, "--jobs", jobs, *names, folder=folder))
             yield f"{words} rows behind the head", 41, alone.out.count(b"\n")
 
@@ -236,7 +312,7 @@ def bounds():
             ended = lab("grade", "--explore", "--seeds", "1", "--steps", "9", *words, "--expect", "w.expect",
                         "counts.asm", folder=folder)
             states = re.fullmatch(
-                rb"counts.asm\tran out of steps\tsome schedules, (\d+) states, ended by --" + bound
+                rb"submission\tverdict\twhy\ncounts.asm\tran out of steps\tsome schedules, (\d+) states, ended by --" + bound
                 + rb", and seed 0: not finished\n", ended.out)
             yield f"{words}", (5, True), (ended.status, states is not None)
             if not words:

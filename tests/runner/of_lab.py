@@ -17,7 +17,7 @@ from table import unescaped
 
 EXAMPLES = os.path.join(table.ROOT, "examples")
 CASES = os.path.join(table.CASES, "lab")
-SEEDS = range(8)
+SEEDS = range(16)
 # the most steps of the schedules that are compared with a second maker's
 MOST = 400
 # programs whose races a survey has to find within 200 seeds, and what it is to look at where they don't show in words

@@ -229,8 +229,8 @@ def pages():
 # a program that doubles [0] into [8], and names [0]; cells of a case, its expectations, the verdict and why
 DOUBLES = b" .entry go\n .data 1 ; output\n .data 0\ngo: LOAD.N r1, r0, 0\n ADD r1, r1, r1\n STORE.N r1, r0, 1\n QUIT\n"
 NAMED_CASES = (
-    (b" .data 3 ; input\n .data 0 ; output: twice\n", b"word output 6\nword [input] 3\n", "right", ""),
-    (b" .data 3 ; input\n .data 0 ; output: twice\n", b"never word output is 6\n", "wrong", "never word output is 6"),
+    (b" .data 3 ; input\n .data 0 ; result: twice\n", b"word result 6\nword [input] 3\n", "right", ""),
+    (b" .data 3 ; input\n .data 0 ; result: twice\n", b"never word result is 6\n", "wrong", "never word result is 6"),
     (b" .data 3\n .data 0 ; the double\n", b"word output 3\n", "right", ""),
     (b" .data 3 ; input\n .data 0\n", b"word output 6\n", "not judged", "no word is named output: the names are input"),
 )

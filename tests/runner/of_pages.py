@@ -198,7 +198,7 @@ def hostile(*words, said="a fair schedule"):
     title = "</title><script>'\"&@RUN@"
     with tool.made_files(source=HOSTILE.encode()) as paths:
         ended, page, made = written("page", paths["source"], *words, "--title", title)
-    if ended.status or ended.out or ended.err or made != ["made"]:
+    if ended.status or not ended.out.endswith(b"/made: open it in a browser\n") or ended.err or made != ["made"]:
         return True, (ended.status, ended.out, ended.err, made)
     told = re.search(r"<title>(.*?)</title>", page).group(1)
     script = re.search(r"<script>(.*?)</script>", page, re.DOTALL).group(1)

@@ -10,7 +10,7 @@ import checks
 import table
 
 PAGES = os.path.join(table.ROOT, "tests", "pages")
-PARTS = ("verdicts", "ends", "sentences", "page_sentences")
+PARTS = ("verdicts", "ends", "hints", "readme", "sentences", "page_sentences")
 # random programs of a part; `make pages` has 300
 PROGRAMS = "15"
 

@@ -15,6 +15,7 @@ LATIN, SHOWN = os.fsdecode(b"M\xFCller.asm"), "M\\xFCller.asm"
 SCHEDULE, SHOWN_SCHEDULE = os.fsdecode(b"M\xFC.schedule"), "M\\xFC.schedule"
 # why a file of such a name is not read
 NOT_READ = "its name is not UTF-8: rename it to have it read"
+HEAD = "submission\tverdict\twhy\n"
 # the characters that are not seen, but change how what stands near them is
 HIDDEN = [*map(chr, range(0x80, 0xA0)), "\u2028", "\u2029", *map(chr, range(0x202A, 0x202F)), *map(chr, range(0x2066, 0x206A))]
 # a word that changes once; its comment follows
@@ -34,7 +35,7 @@ def foreign_names():
         made(folder, "other.asm", WRONG)
         call = ("grade", "--expect", "w.expect", "--seeds", "2")
         names = (LATIN, "other.asm")
-        status, wanted = 1, [(SHOWN, "not read"), ("other.asm", "wrong")]
+        status, wanted = 3, [(SHOWN, "not read"), ("other.asm", "wrong")]
         ended = lab(*call, *names, folder=folder)
         yield "text", (status, wanted), (ended.status, [tuple(it.split("\t")[:2]) for it in ended.out.decode().splitlines()[1:]])
         ended = lab(*call, "--format", "tsv", *names, folder=folder)
@@ -42,13 +43,14 @@ def foreign_names():
         ended = lab(*call, "--json", *names, folder=folder)
         yield "json", (status, wanted), (ended.status, [(it["submission"], it["verdict"]) for it in map(
             json.loads, ended.out.splitlines())])
-        suite = xml.etree.ElementTree.fromstring(lab(*call, "--format", "junit", *names, folder=folder).out)[0]
-        yield "junit", [SHOWN, "other.asm"], [case.get("name") for case in suite]
+        suites = xml.etree.ElementTree.fromstring(lab(*call, "--format", "junit", *names, folder=folder).out)
+        yield "junit", [SHOWN, "other.asm"], [suite.get("name") for suite in suites]
         results = json.loads(lab(*call, "--format", "gradescope", *names, folder=folder).out)
         yield "gradescope", [(SHOWN, 0), ("other.asm", 0)], [(it["name"], it["score"]) for it in results["tests"]]
         for words in ([], ["--no-links"], ["--pages", "pages"]):
             ended = lab(*call, *words, LATIN, folder=folder)
-            yield f"why, with {words}", (1, f"{SHOWN}\tnot read\t{NOT_READ}\n".encode()), (ended.status, ended.out)
+            yield f"why, with {words}", (3, f"{HEAD}{SHOWN}\tnot read\t{NOT_READ}\n".encode()), (
+                ended.status, ended.out)
         made(folder, os.fsdecode(b"cases/\xE4.expect"), b"finished\n")
         ended = lab("grade", "--cases", "cases", "other.asm", folder=folder)
         yield "a case", (1, b"", b"mta_lab: cases/\\xE4.expect: the name of a case has to be UTF-8\n"), (
@@ -104,7 +106,8 @@ def foreign_words():
             ended.status, ended.out, ended.err)
         made(folder, "w", b"word 0 1\n")
         ended = lab("grade", "--expect", "w", "--seeds", "2", SHOWN, folder=folder)
-        yield "in ASCII", (3, f"{SHOWN}\twrong\t".encode()), (ended.status, ended.out[:len(SHOWN) + 7])
+        yield "in ASCII", (3, f"{HEAD}{SHOWN}\twrong\t".encode()), (
+            ended.status, ended.out[:len(HEAD) + len(SHOWN) + 7])
 
 
 @checks.others("grade/long_names")
@@ -177,7 +180,7 @@ def long_comments():
         seed = "\twrong\tseed 0: not word 0 2: [0] 0 -> 1"
         for name, shown in (("a.asm", seed + "   " + "c" * MOST + ".."), ("u.asm", seed + "   " + "ü" * MOST + ".."),
                             ("b.asm", seed + " (" + "c" * 150 + "), [8] 0 -> 1 (" + "d" * 50 + "..)")):
-            yield f"grade of {name}", f"{name}{shown}\n".encode(), lab(*call, name, folder=folder).out
+            yield f"grade of {name}", f"{HEAD}{name}{shown}\n".encode(), lab(*call, name, folder=folder).out
         for command in (["view"], ["debug"], ["survey", "--seeds", "1"], ["explore"], ["compare", "--seeds", "0", "1"]):
             ended = lab(command[0], "a.asm", *command[1:], given=b"step 3\n", folder=folder)
             yield f"{command[0]} cuts", 0, ended.out.count(b"c" * (MOST + 1))
@@ -200,7 +203,7 @@ def hidden_characters():
             made(folder, name, RIGHT)
             rows = [lab("grade", "--expect", "w.expect", "--seeds", "1", *words, name, folder=folder).out for words in (
                 (), ("--format", "tsv"))]
-            yield f"U+{ord(letter):04X} in a row", [b"a?b.asm"] * 2, [row.split(b"\t")[0] for row in rows]
+            yield f"U+{ord(letter):04X} in a row", [b"a?b.asm"] * 2, [row.splitlines()[-1].split(b"\t")[0] for row in rows]
             made(folder, name, f".entry 0\nQUITE ; a{letter}b\n".encode())
             ended = lab("check", name, folder=folder)
             yield f"U+{ord(letter):04X} in a message", (True, True, False), (

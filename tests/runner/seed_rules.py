@@ -14,8 +14,9 @@ import machine  # noqa: E402
 import memory  # noqa: E402
 import sources  # noqa: E402
 
-# how many steps of the fair run count at most
+# how many steps of the fair run count at most, and how many a run usually may have
 MOST_FAIR = 10_000
+USUAL = 10_000
 
 
 def is_free(program, world, stream):
@@ -46,12 +47,15 @@ def by_word(word, streams):
     return streams[word * len(streams) >> 64]
 
 
+def turn_of(steps, free, word, length):
+    """One of these streams: that of the last step goes on, but for one word in `length`; else one begins its turn."""
+    return steps[-1] if steps and steps[-1] in free and word % length else by_word(word, free)
+
+
 def in_turns(steps, program, world, ready, word, length):
-    """The stream of the last step goes on, but for one word in `length`, if it is free; else a free one begins its turn."""
-    if steps and steps[-1] in ready and word % length and is_free(program, world, steps[-1]):
-        return steps[-1]
+    """The same of all free streams."""
     free = [stream for stream in ready if is_free(program, world, stream)]
-    return by_word(word, free) if free else in_rounds(steps, ready)
+    return turn_of(steps, free, word, length) if free else in_rounds(steps, ready)
 
 
 class Rule:
@@ -61,20 +65,32 @@ class Rule:
         self.seed, self.fair, self.words = seed, fair, generator.words_of(seed)
         first, second = itertools.islice(generator.words_of(seed), 2)
         self.changes = sorted((first * fair >> 64, second * fair >> 64))
+        longest = (USUAL - fair) * 3 // 4
+        self.delay = first * (longest if second % 4 else longest // 64) >> 64
 
     def choose(self, steps, program, world):
         """It is asked once a step, in order."""
         ready, word = machine.running(world), next(self.words)
-        match self.seed % 4:
+        match self.seed % 8:
             case 0:
                 return by_word(word, ready)
-            case 1:
+            case 1 | 5:
                 return in_turns(steps, program, world, ready, word, 8)
-            case 2:
+            case 2 | 6:
                 return in_turns(steps, program, world, ready, word, 32)
+            case 4:
+                return self.with_one_late(steps, program, world, ready, word)
         if len(steps) >= 2 * self.fair + 1000:
             return in_turns(steps, program, world, ready, word, 8)
         return self.by_priority(steps, program, world, ready)
+
+    def with_one_late(self, steps, program, world, ready, word):
+        """Turns of 8, for some steps without the stream of the largest number, as long as another one is free."""
+        late = min(ready, key=lambda stream: (-own_number(self.seed, stream), stream))
+        others = [stream for stream in ready if stream != late and is_free(program, world, stream)]
+        if others and len(steps) < self.delay:
+            return turn_of(steps, others, word, 8)
+        return in_turns(steps, program, world, ready, word, 8)
 
     def by_priority(self, steps, program, world, ready):
         """The free stream of the highest priority."""

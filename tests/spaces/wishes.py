@@ -64,8 +64,14 @@ def is_met(expectation, world):
     """Whether a world is as an expectation says."""
     if expectation.form == "word":
         at, value, state = expectation.operands
+        if at >= len(world.memory):
+            return False
         held, tags = world.memory[at]
         return held == value and state in ("", ("empty", "full")[tags & 1])
+    if expectation.form == "sum":
+        first, last, value = expectation.operands
+        held = [held for held, _ in world.memory[first:last + 1]]
+        return len(held) == last + 1 - first and sum(held) % 2**64 == value
     if expectation.form == "register":
         p, s, r, value = expectation.operands
         return world.processors[p].streams[s].registers[r] == value

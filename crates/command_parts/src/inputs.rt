@@ -101,6 +101,15 @@ impl<'a, F: Files, R: Read> Inputs<'a, F, R> {
         read_or_fault(alloc, path, read)
     }
 
+    /// All the bytes of the file of a path that is open to be added to; it is not remembered.
+    pub fn read_again(&self, alloc: Global, path: &str) -> Result<Vec<u8>, LabFault> {
+        let read = match fs::open(self.files, path) {
+            Ok(mut file) => read_whole(alloc, &mut file)?,
+            Err(error) => Err(not_read(alloc, &error)?),
+        };
+        read_or_fault(alloc, path, read)
+    }
+
     /// The bytes of the file that was opened by a path, which is remembered as read; or in words why they are not read.
     pub(crate) fn read_opened(
         &mut self,

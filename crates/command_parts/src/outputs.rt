@@ -2,7 +2,10 @@
 
 use crate::inputs::Inputs;
 use crate::lab_fault::LabFault;
-use output_files::{NewFile, Output, PathOrigin, WriteFault, make_folder, make_new, write_whole};
+use output_files::{
+    NewFile, Output, PathOrigin, WriteFault, append, make_folder, make_new, open_to_append,
+    write_whole,
+};
 use std::alloc::{AllocError, Global};
 use std::io::Read;
 use std::rt::Files;
@@ -64,6 +67,29 @@ impl<F: Files, R: Read> Inputs<'_, F, R> {
         match write_whole(alloc, self.files, &self.used, output) {
             Ok(()) => Ok(()),
             Err(fault) => Err(not_written(alloc, output.path, &fault)?),
+        }
+    }
+
+    /// Opens the regular file of a path that the user named, to add to its end, as `open_to_append` does, or says in words
+    /// why not.
+    pub fn open_to_append(&self, alloc: Global, path: &str) -> Result<F::File, LabFault> {
+        match open_to_append(alloc, self.files, &self.used, path) {
+            Ok(file) => Ok(file),
+            Err(fault) => Err(not_written(alloc, path, &fault)?),
+        }
+    }
+
+    /// Adds these bytes to the end of the file that was opened so by a path, all or none, or says in words why not.
+    pub fn append(
+        &self,
+        alloc: Global,
+        path: &str,
+        file: &mut F::File,
+        bytes: &[u8],
+    ) -> Result<(), LabFault> {
+        match append(file, bytes) {
+            Ok(()) => Ok(()),
+            Err(fault) => Err(not_written(alloc, path, &fault)?),
         }
     }
 

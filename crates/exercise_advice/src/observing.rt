@@ -42,7 +42,9 @@ impl<'a> ShownMistake<'a> {
             | Reason::NoRun { .. }
             | Reason::NoRunCan
             | Reason::Rule(_)
-            | Reason::Absent { .. } => None,
+            | Reason::Absent { .. }
+            | Reason::Lacking { .. }
+            | Reason::NotGiven { .. } => None,
         }
     }
 }

@@ -1,9 +1,9 @@
 -- The faults of the lines of a text, line by line.
-use Rattle.std.proofs.Common.{◌≡◌, ℕ, ◌+◌, ◌<◌, List, [], ◌∷◌, ◌++◌, Ok, Err, length, refl, sym, ap, ◌∙◌, append_assoc, arith}
+use Rattle.std.proofs.Common.{◌≡◌, ℕ, ◌+◌, ◌<◌, List, [], ◌∷◌, ◌++◌, Ok, Err, Bool, ◌||◌, length, refl, sym, ap, ◌∙◌, append_assoc, arith}
 use Rattle.text_parts.specs.Pieces.{pieces}
 use Rattle.image_file.specs.ImageValue.{ImageValue}
 use Rattle.expectation_files.specs.Addresses.{Names}
-use Rattle.expectation_files.specs.Lines.{Meaning, line_said}
+use Rattle.expectation_files.specs.Lines.{Meaning, said_after, has_after, is_points}
 use Rattle.expectation_files.specs.Files.{FileSaid, RequirementsValue}
 use Rattle.expectation_files.specs.Faults.{fault_on, faults_from, or_empty}
 use Rattle.expectation_files.specs.declared.faults.FileFault.{FileFault}
@@ -11,21 +11,21 @@ use Rattle.expectation_files.specs.declared.faults.FileFault.TheVariants as file
 use Rattle.expectation_files.specs.declared.faults.LineFault.{LineFault}
 
 -- a line without a fault
-pub right_line : (ns : Names) (i : ImageValue) (found : List FileFault) (text line : List ℕ) (more : List (List ℕ))
-    (n : ℕ) (m : Meaning) → pieces 10 text ≡ line ∷ more → line_said ns i line ≡ Ok m
-    → found ++ faults_from ns i (n + 1) more ≡ found ++ faults_from ns i n (pieces 10 text)
-right_line ns i found text line more n m cut said =
-    sym (ap (λ ls. found ++ faults_from ns i n ls) cut
-    ∙ ap (λ s. found ++ (fault_on n s ++ faults_from ns i (n + 1) more)) said)
+pub right_line : (ns : Names) (i : ImageValue) (has : Bool) (found : List FileFault) (text line : List ℕ) (more : List (List ℕ))
+    (n : ℕ) (m : Meaning) → pieces 10 text ≡ line ∷ more → said_after ns i has line ≡ Ok m
+    → found ++ faults_from ns i (has || is_points m) (n + 1) more ≡ found ++ faults_from ns i has n (pieces 10 text)
+right_line ns i has found text line more n m cut said =
+    sym (ap (λ ls. found ++ faults_from ns i has n ls) cut
+    ∙ ap (λ s. found ++ (fault_on n s ++ faults_from ns i (has_after has s) (n + 1) more)) said)
 
 -- a line with one
-pub wrong_line : (ns : Names) (i : ImageValue) (found : List FileFault) (text line : List ℕ) (more : List (List ℕ))
-    (n : ℕ) (f : LineFault) → pieces 10 text ≡ line ∷ more → line_said ns i line ≡ Err f
-    → (found ++ file.Line n f ∷ []) ++ faults_from ns i (n + 1) more ≡ found ++ faults_from ns i n (pieces 10 text)
-wrong_line ns i found text line more n f cut said =
-    append_assoc found (file.Line n f ∷ []) (faults_from ns i (n + 1) more)
-    ∙ sym (ap (λ ls. found ++ faults_from ns i n ls) cut
-    ∙ ap (λ s. found ++ (fault_on n s ++ faults_from ns i (n + 1) more)) said)
+pub wrong_line : (ns : Names) (i : ImageValue) (has : Bool) (found : List FileFault) (text line : List ℕ) (more : List (List ℕ))
+    (n : ℕ) (f : LineFault) → pieces 10 text ≡ line ∷ more → said_after ns i has line ≡ Err f
+    → (found ++ file.Line n f ∷ []) ++ faults_from ns i has (n + 1) more ≡ found ++ faults_from ns i has n (pieces 10 text)
+wrong_line ns i has found text line more n f cut said =
+    append_assoc found (file.Line n f ∷ []) (faults_from ns i has (n + 1) more)
+    ∙ sym (ap (λ ls. found ++ faults_from ns i has n ls) cut
+    ∙ ap (λ s. found ++ (fault_on n s ++ faults_from ns i (has_after has s) (n + 1) more)) said)
 
 -- Faults stay as they are where there are some, or where the text says something.
 

@@ -1,11 +1,11 @@
 -- All faults of a file of expectations.
-use Rattle.std.specs.Prelude.{ℕ, ◌+◌, Bool, true, not, List, [], ◌∷◌, ◌++◌, filter, Ok, Err}
+use Rattle.std.specs.Prelude.{ℕ, ◌+◌, Bool, true, false, not, List, [], ◌∷◌, ◌++◌, filter, Ok, Err}
 use Rattle.std.proofs.Math.ListN.{replicate}
 use Rattle.tag_memory.specs.Cell.{cell_of}
 use Rattle.text_parts.specs.Pieces.{pieces}
 use Rattle.image_file.specs.ImageValue.{ImageValue, image_of}
 use Rattle.expectation_files.specs.Addresses.{Names}
-use Rattle.expectation_files.specs.Lines.{MeaningSaid, line_said}
+use Rattle.expectation_files.specs.Lines.{MeaningSaid, said_after, has_after}
 use Rattle.expectation_files.specs.Files.{FileSaid, file_said}
 use Rattle.expectation_files.specs.OfProgram.{is_of_program}
 use Rattle.expectation_files.specs.declared.faults.FileFault.{FileFault}
@@ -16,10 +16,12 @@ abbrev pub fault_on : ℕ → MeaningSaid → List FileFault
 fault_on k (Ok m) = []
 fault_on k (Err f) = file.Line k f ∷ []
 
--- the faults of lines of which the first has this number
-abbrev pub faults_from : Names → ImageValue → ℕ → List (List ℕ) → List FileFault
-faults_from names i k [] = []
-faults_from names i k (l ∷ ls) = fault_on k (line_said names i l) ++ faults_from names i (k + 1) ls
+-- the faults of lines of which the first has this number, after others that say how many points there are or not
+abbrev pub faults_from : Names → ImageValue → Bool → ℕ → List (List ℕ) → List FileFault
+faults_from names i has k [] = []
+faults_from names i has k (l ∷ ls) =
+    fault_on k (said_after names i has l)
+    ++ faults_from names i (has_after has (said_after names i has l)) (k + 1) ls
 
 -- these faults; that a file says nothing is one where there is no other
 abbrev pub or_empty : FileSaid → List FileFault → List FileFault
@@ -31,7 +33,7 @@ or_empty (Ok v) [] = []
 
 -- the faults of all lines of a text, for a program with these names and this image
 abbrev pub file_faults : Names → ImageValue → List ℕ → List FileFault
-file_faults names i text = or_empty (file_said names i text) (faults_from names i 1 (pieces 10 text))
+file_faults names i text = or_empty (file_said names i text) (faults_from names i false 1 (pieces 10 text))
 
 -- A file that is read alone.
 
@@ -53,4 +55,4 @@ is_of_form file.NoMemory = true
 abbrev pub form_faults : List ℕ → List FileFault
 form_faults text =
     or_empty (file_said no_names widest_image text)
-    (filter is_of_form (faults_from no_names widest_image 1 (pieces 10 text)))
+    (filter is_of_form (faults_from no_names widest_image false 1 (pieces 10 text)))

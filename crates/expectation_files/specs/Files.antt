@@ -1,5 +1,5 @@
 -- What a file of expectations says.
-use Rattle.std.specs.Prelude.{ℕ, zero, suc, ◌+◌, ◌==◌, ◌&&◌, ◌||◌, Bool, if◌then◌else◌, List, [], ◌∷◌, ◌++◌, length, codes}
+use Rattle.std.specs.Prelude.{ℕ, zero, suc, ◌+◌, ◌==◌, ◌&&◌, ◌||◌, Bool, false, if◌then◌else◌, List, [], ◌∷◌, ◌++◌, length, codes}
 use Rattle.std.specs.Prelude.{Option, Some, None, is_some, not, Result, Ok, Err}
 use Rattle.std.specs.List.{slice_index_or}
 use Rattle.std.specs.Option.{option_or}
@@ -12,7 +12,8 @@ use Rattle.program_rules.specs.declared.program_rule.ProgramRule.{ProgramRule}
 use Rattle.expectation_files.specs.Words.{words_on, in_one_line}
 use Rattle.expectation_files.specs.Addresses.{Names}
 use Rattle.expectation_files.specs.ClaimLines.{ClaimValue}
-use Rattle.expectation_files.specs.Lines.{Meaning, Nothing, End, Claimed, Rules, NeverBusy, MeaningSaid, line_said}
+use Rattle.expectation_files.specs.Lines.{Meaning, Nothing, End, Claimed, Rules, NeverBusy, Marked, MeaningSaid}
+use Rattle.expectation_files.specs.Lines.{said_after, has_after}
 use Rattle.expectation_files.specs.declared.faults.FileFault.{FileFault}
 use Rattle.expectation_files.specs.declared.faults.FileFault.TheVariants as file
 
@@ -109,6 +110,7 @@ said_on k l NeverBusy = record {
   rule_texts = [];
   never_busy = Some k;
 }
+said_on k l (Marked m) = nothing_said
 
 -- what some lines say, and what those after them say
 abbrev pub joined : RequirementsValue → RequirementsValue → RequirementsValue
@@ -138,10 +140,11 @@ abbrev pub on_line : ℕ → List ℕ → MeaningSaid → FileSaid → FileSaid
 on_line k l (Err f) later = Err (file.Line k f)
 on_line k l (Ok m) later = in_front (said_on k l m) later
 
--- what lines say of which the first has this number
-abbrev pub lines_said : Names → ImageValue → ℕ → List (List ℕ) → FileSaid
-lines_said names i k [] = Ok nothing_said
-lines_said names i k (l ∷ ls) = on_line k l (line_said names i l) (lines_said names i (k + 1) ls)
+-- what lines say of which the first has this number, after others that say how many points there are or not
+abbrev pub lines_said : Names → ImageValue → Bool → ℕ → List (List ℕ) → FileSaid
+lines_said names i has k [] = Ok nothing_said
+lines_said names i has k (l ∷ ls) =
+    on_line k l (said_after names i has l) (lines_said names i (has_after has (said_after names i has l)) (k + 1) ls)
 
 -- whether nothing is said
 abbrev pub is_nothing : RequirementsValue → Bool
@@ -155,4 +158,4 @@ unless_nothing (Ok v) = if is_nothing v then Err file.Empty else Ok v
 -- what a text says of a program with these names and this image: all that its lines say, in their order; or the fault of the
 -- least line that has one
 unfoldable pub file_said : Names → ImageValue → List ℕ → FileSaid
-file_said names i text = unless_nothing (lines_said names i 1 (pieces 10 text))
+file_said names i text = unless_nothing (lines_said names i false 1 (pieces 10 text))

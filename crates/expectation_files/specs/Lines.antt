@@ -1,5 +1,5 @@
 -- What a line of a file of expectations says.
-use Rattle.std.specs.Prelude.{ℕ, Bool, false, if◌then◌else◌, List, [], ◌∷◌, codes, Result, Ok, Err}
+use Rattle.std.specs.Prelude.{ℕ, Bool, true, false, ◌&&◌, ◌||◌, if◌then◌else◌, List, [], ◌∷◌, codes, Result, Ok, Err}
 use Rattle.std.specs.Str.{bytes_eq}
 use Rattle.image_file.specs.ImageValue.{ImageValue}
 use Rattle.claims.specs.declared.claim.Scope.TheVariants.{Always, Never, Once}
@@ -11,18 +11,22 @@ use Rattle.expectation_files.specs.WordLines.{Said, at, word_said, words_said, s
 use Rattle.expectation_files.specs.EndLines.{register_said, finished_said, stopped_said}
 use Rattle.expectation_files.specs.ClaimLines.{ClaimValue, claim_said}
 use Rattle.expectation_files.specs.RuleLines.{RulesSaid, entries_said, most_words_said, operations_said}
+use Rattle.expectation_files.specs.Marks.{MarkSaid, mark_named}
+use Rattle.expectation_files.specs.declared.marks.CaseMark.{CaseMark}
+use Rattle.expectation_files.specs.declared.marks.CaseMark.TheVariants as mark
 use Rattle.expectation_files.specs.declared.faults.LineFault.{LineFault}
 use Rattle.expectation_files.specs.declared.faults.LineFaultKind.TheVariants as fault
 use Rattle.expectation_files.specs.declared.rule_lines.OperationVerb.TheVariants.{Forbid, Require}
 
 -- what a line says: nothing; what the end of a run has to be; a claim about worlds; rules for the program; that no stream
--- ever loops alone
+-- ever loops alone; how the case counts to which the file belongs
 pub data Meaning : Type 0 where
   Nothing : Meaning
   End : Expectation → Meaning
   Claimed : ClaimValue → Meaning
   Rules : List ProgramRule → Meaning
   NeverBusy : Meaning
+  Marked : CaseMark → Meaning
 
 abbrev pub MeaningSaid : Type 0
 MeaningSaid = Result Meaning LineFault
@@ -38,6 +42,10 @@ claim_of (Ok c) = Ok (Claimed c)
 abbrev pub rules_of : RulesSaid → MeaningSaid
 rules_of (Err f) = Err f
 rules_of (Ok rs) = Ok (Rules rs)
+
+abbrev pub mark_of : MarkSaid → MeaningSaid
+mark_of (Err f) = Err f
+mark_of (Ok m) = Ok (Marked m)
 
 -- whether words are `busy` alone
 abbrev pub is_busy_alone : List (List ℕ) → Bool
@@ -56,7 +64,7 @@ rules_named name os =
     else (if bytes_eq name (codes "at") then rules_of (most_words_said os)
     else (if bytes_eq name (codes "forbid") then rules_of (operations_said Forbid os)
     else (if bytes_eq name (codes "require") then rules_of (operations_said Require os)
-    else at 0 fault.Unknown)))
+    else mark_of (mark_named name os))))
 
 abbrev pub claim_named : Names → ImageValue → List ℕ → List (List ℕ) → MeaningSaid
 claim_named names i name os =
@@ -82,3 +90,26 @@ words_meaning names i (name ∷ os) = meaning_named names i name os
 -- what a line says of a program with these names and this image, or its fault
 unfoldable pub line_said : Names → ImageValue → List ℕ → MeaningSaid
 line_said names i line = words_meaning names i (words_on line)
+
+-- whether a line says how many points a case has
+abbrev pub is_points : Meaning → Bool
+is_points (Marked (mark.Points n)) = true
+is_points (Marked mark.Hidden) = false
+is_points Nothing = false
+is_points (End e) = false
+is_points (Claimed c) = false
+is_points (Rules rs) = false
+is_points NeverBusy = false
+
+-- what a line says after others that say how many points there are or not: a second such line has a fault
+abbrev pub once : Bool → MeaningSaid → MeaningSaid
+once has (Err f) = Err f
+once has (Ok m) = if has && is_points m then at 0 fault.Again else Ok m
+
+abbrev pub said_after : Names → ImageValue → Bool → List ℕ → MeaningSaid
+said_after names i has line = once has (line_said names i line)
+
+-- whether some line says it, up to one that says this
+abbrev pub has_after : Bool → MeaningSaid → Bool
+has_after has (Err f) = has
+has_after has (Ok m) = has || is_points m

@@ -25,3 +25,5 @@ is_of_program fault.Operation = false
 is_of_program fault.Beyond = false
 is_of_program fault.Busy = false
 is_of_program fault.Twice = false
+is_of_program fault.Worth = false
+is_of_program fault.Again = false

@@ -7,7 +7,7 @@ use Rattle.claims.specs.declared.claim.ClaimForm.{ClaimForm}
 use Rattle.claims.specs.declared.claim.ClaimForm.TheVariants as form
 use Rattle.expectation_files.specs.Addresses.{Names}
 use Rattle.expectation_files.specs.ClaimLines.{ClaimValue, ClaimFormValue, OfWord, OfStreams}
-use Rattle.expectation_files.specs.Lines.{Meaning, Nothing, End, Claimed, Rules, NeverBusy}
+use Rattle.expectation_files.specs.Lines.{Meaning, Nothing, End, Claimed, Rules, NeverBusy, Marked}
 use Rattle.expectation_files.specs.Files.{RequirementsValue}
 use Rattle.expectation_files.specs.declared.lines.LineMeaning.{LineMeaning}
 use Rattle.expectation_files.specs.declared.lines.LineMeaning.TheVariants as line
@@ -31,6 +31,7 @@ meaning_seen (line.End e) = End e
 meaning_seen (line.Claim c) = Claimed (claim_seen c)
 meaning_seen (line.Rules rs) = Rules rs.items
 meaning_seen line.NeverBusy = NeverBusy
+meaning_seen (line.Mark m) = Marked m
 
 abbrev pub numbers_of : List WrittenLine → List ℕ
 numbers_of ls = map (λ (l : WrittenLine). l.number) ls

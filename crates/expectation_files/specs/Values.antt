@@ -48,6 +48,10 @@ value_named text =
 abbrev pub count_named : List ℕ → Option ℕ
 count_named text = decimal_to (2 ^ 64 - 1) text
 
+-- a case has 1,000 points at most
+abbrev pub points_named : List ℕ → Option ℕ
+points_named text = decimal_to 1000 text
+
 abbrev pub from_one : ℕ → Option ℕ
 from_one n = if nat_lt 0 n then Some n else None
 

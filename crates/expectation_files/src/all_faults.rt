@@ -1,6 +1,6 @@
 //! All faults of a file of expectations: for a program, or of its form alone.
 
-ghost use Rattle.std.specs.Prelude.{◌≡◌, filter, IfOk};
+ghost use Rattle.std.specs.Prelude.{◌≡◌, false, filter, IfOk};
 ghost use Rattle.text_parts.specs.Pieces.{pieces};
 ghost use Rattle.expectation_files.specs.Files.{file_said};
 ghost use Rattle.expectation_files.specs.Faults.{faults_from, or_empty, file_faults, form_faults, is_of_form};
@@ -9,7 +9,7 @@ ghost use Rattle.expectation_files.specs.Seen.{names_in};
 
 use crate::addresses::KnownNames;
 use crate::faults::{FileFault, Unread};
-use crate::lines::read_line;
+use crate::lines::read_line_after;
 use crate::reading::read_requirements;
 use image_file::Image;
 use std::alloc::{AllocError, Global};
@@ -54,16 +54,17 @@ fn line_faults(
     image: &Image,
     text: &[u8],
 ) -> Result<Vec<FileFault>, AllocError>
-    ensures { IfOk result (λ v. v.items ≡ faults_from (names_in names.entry) image.now 1 (pieces 10 text.now)) }
+    ensures { IfOk result (λ v. v.items ≡ faults_from (names_in names.entry) image.now false 1 (pieces 10 text.now)) }
 {
     let mut faults = Vec::new(alloc);
+    let mut has_points = false;
     let mut number = 0;
     let mut rest = Some(text);
     while let Some(bytes) = rest {
         let (line, following) = cut(bytes, b'\n');
         number += 1;
-        match read_line(alloc, names, image, line) {
-            Ok(_) => {}
+        match read_line_after(alloc, names, image, has_points, line) {
+            Ok(meaning) => has_points = has_points || meaning.is_points(),
             Err(Unread::Fault(fault)) => faults.push(FileFault::Line {
                 line: number,
                 fault,

@@ -32,6 +32,10 @@ pub enum LineForm {
     MostWords,
     /// `forbid` or `require`, about the operations of the program.
     Operations,
+    /// `points`, about the case.
+    Points,
+    /// `hidden`.
+    Hidden,
 }
 
 /// What is wrong with a word of a line.
@@ -75,6 +79,10 @@ pub enum LineFaultKind {
     Place,
     /// The range of program words ends before it begins.
     PlaceRange,
+    /// It is no number of points: decimal digits, 1,000 at most.
+    Worth,
+    /// A line above says how many points the case has.
+    Again,
 }
 
 impl LineFaultKind {
@@ -101,7 +109,9 @@ impl LineFaultKind {
             | LineFaultKind::Operation
             | LineFaultKind::Beyond
             | LineFaultKind::Busy
-            | LineFaultKind::Twice => false,
+            | LineFaultKind::Twice
+            | LineFaultKind::Worth
+            | LineFaultKind::Again => false,
         }
     }
 }

@@ -1,9 +1,9 @@
 //! What a line says.
 
-ghost use Rattle.std.specs.Prelude.{◌≡◌, ℕ, List, [], ◌∷◌, Ok, Err, IfOk, IfErr};
+ghost use Rattle.std.specs.Prelude.{◌≡◌, ◌||◌, ℕ, List, [], ◌∷◌, Ok, Err, IfOk, IfErr};
 ghost use Rattle.expectation_files.specs.Words.{words_of};
 ghost use Rattle.expectation_files.specs.Lines.{line_said, meaning_named, claim_named, rules_named, never_said};
-ghost use Rattle.expectation_files.specs.Lines.{is_busy_alone, Rules};
+ghost use Rattle.expectation_files.specs.Lines.{is_busy_alone, is_points, said_after, Rules};
 ghost use Rattle.expectation_files.specs.OperandsSeen.{AreOperands};
 ghost use Rattle.expectation_files.specs.Seen.{names_in, meaning_seen};
 ghost use Rattle.expectation_files.specs.declared.faults.Unread.TheVariants as unread;
@@ -13,6 +13,7 @@ use crate::addresses::KnownNames;
 use crate::claim_lines::read_claim;
 use crate::end_lines::{read_finished, read_register, read_stopped};
 use crate::faults::{LineFault, LineFaultKind, Unread};
+use crate::marks::{CaseMark, mark_named};
 use crate::rule_lines::{OperationVerb, read_entries, read_most_words, read_operations};
 use crate::word_lines::{read_sum, read_word, read_words};
 use crate::words::{Operands, next_word, read_operands, statement_of};
@@ -35,11 +36,57 @@ pub(crate) enum LineMeaning {
     Rules(Vec<ProgramRule>),
     /// That no stream ever loops alone.
     NeverBusy,
+    /// How the case counts to which the file belongs.
+    Mark(CaseMark),
+}
+
+impl LineMeaning {
+    /// Whether it, or a line above, says how many points the case has.
+    pub(crate) fn has_points_after(&self, has_points: bool) -> bool
+        ensures { result ≡ (has_points || is_points (meaning_seen self.now)) }
+    {
+        has_points || self.is_points()
+    }
+
+    /// Whether it says how many points the case has.
+    pub(crate) fn is_points(&self) -> bool
+        ensures { result ≡ is_points (meaning_seen self.now) }
+    {
+        match self {
+            LineMeaning::Mark(CaseMark::Points(_)) => true,
+            LineMeaning::Mark(CaseMark::Hidden)
+            | LineMeaning::Nothing
+            | LineMeaning::End(_)
+            | LineMeaning::Claim(_)
+            | LineMeaning::Rules(_)
+            | LineMeaning::NeverBusy => false,
+        }
+    }
+}
+
+/// What a line says after others, of which one says how many points the case has, or none does.
+pub(crate) fn read_line_after(
+    alloc: Global,
+    names: KnownNames<'_, '_, '_>,
+    image: &Image,
+    has_points: bool,
+    line: &[u8],
+) -> Result<LineMeaning, Unread>
+    ensures means { IfOk result (λ m. said_after (names_in names.entry) image.now has_points line.now
+        ≡ Ok (meaning_seen m)) }
+    ensures fault { IfErr result (λ u. (f : LineFault) → u ≡ unread.Fault f
+        → said_after (names_in names.entry) image.now has_points line.now ≡ Err f) }
+{
+    let meaning = read_line(alloc, names, image, line)?;
+    if has_points && meaning.is_points() {
+        return Err(Unread::Fault(LineFault::at(0, LineFaultKind::Again)));
+    }
+    Ok(meaning)
 }
 
 /// What a line says of a program with these names and this image.
 #[tactic(auto, unfolding(crate::specs::Lines::line_said))]
-pub(crate) fn read_line(
+fn read_line(
     alloc: Global,
     names: KnownNames<'_, '_, '_>,
     image: &Image,
@@ -161,7 +208,7 @@ fn read_rules_named(alloc: Global, name: &[u8], text: &[u8]) -> Result<LineMeani
     if name == b"require".as_slice() {
         return Ok(LineMeaning::Rules(read_operations(alloc, OperationVerb::Require, text)?));
     }
-    Err(Unread::Fault(LineFault::at(0, LineFaultKind::Unknown)))
+    Ok(LineMeaning::Mark(mark_named(name, text)?))
 }
 
 /// A line that says this one rule.

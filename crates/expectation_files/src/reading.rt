@@ -7,7 +7,7 @@ ghost use Rattle.expectation_files.specs.declared.faults.FileFault.TheVariants a
 
 use crate::addresses::KnownNames;
 use crate::faults::FileFault;
-use crate::lines::read_line;
+use crate::lines::read_line_after;
 use crate::requirements::Requirements;
 use image_file::Image;
 use std::alloc::Global;
@@ -28,13 +28,17 @@ pub fn read_requirements(
         → file_said (names_in names.entry) image.now text.now ≡ Err f) }
 {
     let mut found = Requirements::none(alloc);
+    let mut has_points = false;
     let mut number = 0;
     let mut rest = Some(text);
     while let Some(bytes) = rest {
         let (line, following) = cut(bytes, b'\n');
         number += 1;
-        match read_line(alloc, names, image, line) {
-            Ok(meaning) => found.add(alloc, number, line, meaning)?,
+        match read_line_after(alloc, names, image, has_points, line) {
+            Ok(meaning) => {
+                has_points = meaning.has_points_after(has_points);
+                found.add(alloc, number, line, meaning)?
+            }
             Err(unread) => return Err(unread.on_line(number)),
         }
         rest = following;

@@ -134,7 +134,7 @@ impl Requirements {
             ≡ joined (requirements_seen self.old) (said_on number line.now (meaning_seen meaning))) }
     {
         match meaning {
-            LineMeaning::Nothing => Ok(()),
+            LineMeaning::Nothing | LineMeaning::Mark(_) => Ok(()),
             LineMeaning::End(expectation) => {
                 self.ends.push(expectation)?;
                 Ok(self.end_lines.push(written(alloc, number, line)?)?)

@@ -1,7 +1,7 @@
 //! What the words of a line say, whatever the program.
 
 ghost use Rattle.std.specs.Prelude.{◌≡◌, ◌≤◌, IfSome};
-ghost use Rattle.expectation_files.specs.Values.{number_to, decimal_to, stream_named, register_named, count_named};
+ghost use Rattle.expectation_files.specs.Values.{number_to, decimal_to, stream_named, register_named, count_named, points_named};
 ghost use Rattle.expectation_files.specs.Values.{value_named, trap_named, state_named, relation_named};
 
 use expectations::{FullEmpty, Relation};
@@ -18,6 +18,9 @@ const LAST_REGISTER: u8 = 31;
 
 /// The greatest number of a trap.
 const LAST_TRAP: u8 = 10;
+
+/// The most points of a case.
+const MOST_POINTS: u64 = 1_000;
 
 /// The magnitude of the least value, -2^63.
 const LEAST: u64 = 1 << 63;
@@ -109,6 +112,14 @@ pub(crate) fn count_named(text: &[u8]) -> Option<usize>
 {
     let count = read_digits(Base::Decimal, text)?.up_to(u64::MAX)?;
     Some(count as usize)
+}
+
+/// How many points a case has: decimal digits, 1,000 at most.
+pub(crate) fn points_named(text: &[u8]) -> Option<u32>
+    ensures { result ≡ points_named text.now }
+{
+    let points = read_digits(Base::Decimal, text)?.up_to(MOST_POINTS)?;
+    Some(points as u32)
 }
 
 /// A number of at most so much, decimal or with `0x`.

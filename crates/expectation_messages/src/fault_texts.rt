@@ -7,7 +7,7 @@ use std::alloc::{AllocError, Global};
 
 /// The words with which lines begin.
 const FIRST_WORDS: &str =
-    "a line begins with word, words, sum, register, finished, stopped, always, never, some, entries, at most, forbid or require";
+    "a line begins with word, words, sum, register, finished, stopped, always, never, some, entries, at most, forbid, require, points or hidden";
 
 /// Which byte addresses some memory has a word at.
 const ADDRESSES: &str = "no memory has a word at this address: multiples of 8 below 2097152";
@@ -83,6 +83,8 @@ fn text_of(kind: LineFaultKind) -> FaultText {
         LineFaultKind::Beyond => FaultText::Fixed(BEYOND),
         LineFaultKind::Busy => FaultText::Fixed(BUSY),
         LineFaultKind::Twice => FaultText::Fixed("a stream is named twice"),
+        LineFaultKind::Worth => FaultText::Fixed("a case has 0 to 1000 points"),
+        LineFaultKind::Again => FaultText::Fixed("a line above says how many points the case has"),
     }
 }
 
@@ -136,5 +138,7 @@ fn form_words(form: LineForm) -> &'static str {
         LineForm::Entries => "a line about entries is entries N",
         LineForm::MostWords => "a line about the size of the program is at most N words",
         LineForm::Operations => "after forbid or require come names of operations",
+        LineForm::Points => "a line about points is points N",
+        LineForm::Hidden => "nothing follows hidden",
     }
 }

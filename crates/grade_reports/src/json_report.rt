@@ -1,9 +1,11 @@
 //! Verdicts as JSON ("JSON", docs/LAB_REFERENCE.md).
 
+use crate::case_scores::{earned_points, score_of};
 use crate::reports::ReportedRow;
-use crate::rows::{CountedEnd, ReportLine, SourcePosition};
+use crate::rows::{CaseRow, CountedEnd, ReportLine, SourcePosition};
 use judgements::{Known, Witness};
 use lab_json::{List, Object, digits, line_value, text_value, turns_value};
+use lab_requests::Undecided;
 use serde_json::Value;
 use std::alloc::{AllocError, Global};
 
@@ -38,10 +40,46 @@ fn grade_value(alloc: Global, reported: &ReportedRow<'_>) -> Result<Value, Alloc
     put_known(alloc, &mut grade, row.known);
     put_witness(alloc, &mut grade, &row.witness);
     grade.put("missed", missed_value(alloc, row.missed.as_ref()));
+    let undecided = reported.form.undecided;
+    grade.put_number("points", earned_points(undecided, &row.cases));
+    grade.put_number("max_points", reported.form.points);
+    grade.put("cases", cases_value(alloc, undecided, &row.cases));
     grade.put("place", place_value(alloc, row.place));
     grade.put("ends", ends_value(alloc, &row.ends));
     grade.put("page", some_text_value(alloc, row.page.as_ref()));
     grade.whole()
+}
+
+/// The rows of cases.
+fn cases_value(
+    alloc: Global,
+    undecided: Undecided,
+    cases: &[CaseRow],
+) -> Result<Value, AllocError> {
+    let mut values = List::new(alloc);
+    for case in cases {
+        values.put(case_value(alloc, undecided, case));
+    }
+    values.whole()
+}
+
+/// The row of a case.
+fn case_value(alloc: Global, undecided: Undecided, case: &CaseRow) -> Result<Value, AllocError> {
+    let mut object = Object::new(alloc);
+    object.put("case", some_text_value(alloc, case.name.as_ref()));
+    object.put("hidden", Ok(Value::Bool(case.is_hidden)));
+    object.put_text("verdict", case.kind.word());
+    let score = score_of(undecided, case.kind, case.points);
+    let score = match score {
+        Some(score) => Value::from(u64::from(score)),
+        None => Value::Null,
+    };
+    object.put("points", Ok(score));
+    object.put_number("max_points", u64::from(case.points));
+    put_known(alloc, &mut object, case.known);
+    put_witness(alloc, &mut object, &case.witness);
+    object.put("missed", missed_value(alloc, case.missed.as_ref()));
+    object.whole()
 }
 
 /// A text that may be missing.

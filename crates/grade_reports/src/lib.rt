@@ -1,15 +1,24 @@
 //! What is said of submissions, a row each, and the formats in which it is written.
 #![tactic(auto)]
 
+mod case_scores;
+mod cells;
+mod feedback;
 mod gradescope_report;
 mod json_report;
 mod junit_report;
+mod moodle_report;
+mod reasons;
 mod report_classes;
 mod reports;
 mod rows;
+mod student_rows;
 mod text_report;
 mod tsv_report;
 
-pub use reports::report_of;
-pub use rows::{CountedEnd, GradeRow, ReportLine, SourcePosition};
-pub use text_report::reason_of;
+pub use case_scores::{earned_points, score_of};
+pub use feedback::{StudentFile, feedback_of};
+pub use reasons::reason_of;
+pub use reports::{ReportForm, ReportedRow, head_of, lines_of, report_of};
+pub use rows::{CaseRow, CountedEnd, GradeRow, ReportLine, SourcePosition};
+pub use student_rows::{StudentRow, case_for_student, row_for_student};

@@ -7,7 +7,7 @@ use judgements::{Known, VerdictKind, Witness};
 use std::alloc::{AllocError, Global};
 
 /// A line of a file of expectations, as reports have it.
-#[derive(Drop)]
+#[derive(Clone, Drop)]
 pub struct ReportLine {
     /// Its number, from 1.
     pub number: usize,
@@ -26,7 +26,7 @@ impl ReportLine {
 }
 
 /// Ends that are counted as one.
-#[derive(Drop)]
+#[derive(Clone, Drop)]
 pub struct CountedEnd {
     /// How they end; None where a claim is broken.
     pub kind: Option<EndKind>,
@@ -40,6 +40,31 @@ pub struct CountedEnd {
     pub missed: Option<ReportLine>,
 }
 
+/// What is said of a submission by one case.
+#[derive(Clone, Drop)]
+pub struct CaseRow {
+    /// The name of the case; None of the only one that a file of expectations is.
+    pub name: Option<String>,
+    /// Whether no text for a student has what it gives and expects.
+    pub is_hidden: bool,
+    /// How many points a submission earns by it that is right.
+    pub points: u32,
+    /// What the submission is by this case.
+    pub kind: VerdictKind,
+    /// What was looked at.
+    pub known: Known,
+    /// What shows it.
+    pub witness: Witness,
+    /// The first line that the end misses, or that is broken on the way; or the line by which it can't be judged.
+    pub missed: Option<ReportLine>,
+    /// Who was stopped, who waits and which words changed, or what a line asks for that the program does not have.
+    pub words: String,
+    /// A finding of the run that shows it; empty where it has none.
+    pub finding: String,
+    /// What it means for the exit status.
+    pub status: Status,
+}
+
 /// A place in a source.
 #[derive(Clone, Copy, Debug, PartialEq, Eq)]
 pub struct SourcePosition {
@@ -50,7 +75,7 @@ pub struct SourcePosition {
 }
 
 /// What is said of a submission: what it is, as values, and what needs names, in words.
-#[derive(Drop)]
+#[derive(Clone, Drop)]
 pub struct GradeRow {
     /// What it is.
     pub kind: VerdictKind,
@@ -67,6 +92,8 @@ pub struct GradeRow {
     pub words: String,
     /// The first finding of the run that shows it.
     pub finding: String,
+    /// What is said of it by each case, in the order of the cases; empty of what is no program.
+    pub cases: Vec<CaseRow>,
     /// Where a source has its first fault.
     pub place: Option<SourcePosition>,
     /// All ends, where they are asked for.
@@ -90,6 +117,7 @@ impl GradeRow {
             missed: None,
             words: String::new(alloc),
             finding: String::new(alloc),
+            cases: Vec::new(alloc),
             place: None,
             ends: Vec::new(alloc),
             page: None,

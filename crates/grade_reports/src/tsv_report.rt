@@ -1,7 +1,8 @@
 //! Verdicts as fields that are apart by tabs.
 
+use crate::cells::push_cell;
+use crate::reasons::push_turns;
 use crate::reports::ReportedRow;
-use crate::text_report::push_turns;
 use judgements::Witness;
 use plain_text::push_plain;
 use std::alloc::{AllocError, Global};
@@ -15,11 +16,11 @@ pub(crate) fn push_tsv(
     reported: &ReportedRow<'_>,
 ) -> Result<(), AllocError> {
     let row = reported.row;
-    push_plain(out, reported.submission)?;
+    push_cell(out, reported.submission)?;
     let word = row.kind.word();
     write!(out, "\t{word}\t")?;
     if let Some(case) = &row.case {
-        push_plain(out, case)?;
+        push_cell(out, case)?;
     }
     push_count(out, row.known.worlds)?;
     push_count(out, row.known.seeds)?;
@@ -27,7 +28,7 @@ pub(crate) fn push_tsv(
     match &row.witness {
         Witness::None => {}
         Witness::Seed(seed) => write!(out, "{seed}")?,
-        Witness::Schedule(steps) => push_turns(alloc, out, steps)?,
+        Witness::Schedule(steps) => push_turns(alloc, out, steps, ", ")?,
     }
     match &row.missed {
         Some(missed) => {

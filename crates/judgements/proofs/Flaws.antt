@@ -2,7 +2,6 @@
 use Rattle.std.proofs.Common.{List}
 use Rattle.space_ends.specs.declared.end_values.SpaceEnd.{SpaceEnd}
 use Rattle.judgements.specs.Flaws.{NoneShows, ShowNothing}
-use Rattle.judgements.specs.declared.end_flaws.EndFlaw.{EndFlaw}
 use Rattle.judgements.specs.declared.end_flaws.EndFlaw.TheVariants as flaw
 
 pub none_shown : (ends : List SpaceEnd) → NoneShows ends flaw.Trap → NoneShows ends flaw.Deadlock

@@ -1,6 +1,6 @@
 -- What was read of a case is judged: a text says something, and a program keeps the rules of which it breaks none.
-use Rattle.std.proofs.Common.{◌≡◌, ℕ, suc, ◌+◌, ◌<◌, ◌≤◌, Bool, true, false, not, cond, List, [], ◌∷◌, length}
-use Rattle.std.proofs.Common.{refl, arith, ⊎_elim, lt-ltb, Option, Some, None}
+use Rattle.std.proofs.Common.{◌≡◌, ℕ, suc, ◌+◌, ◌≤◌, Bool, true, false, not, cond, List, [], ◌∷◌, length}
+use Rattle.std.proofs.Common.{refl, arith, ⊎_elim, lt-ltb, None}
 use Rattle.std.specs.Prelude.{Ok, Err, IsTrue, IsFalse, if◌then◌else◌}
 use Rattle.std.specs.List.{list_all, position_or_len, position}
 use Rattle.std.proofs.lemmas.Bool.{cases_lt}
@@ -39,7 +39,7 @@ kept i rules e = all_pass (is_kept i) rules (none_before (λ r. not (is_kept i r
 pub something : (names : Names) (i : ImageValue) (text : List ℕ) (v : RequirementsValue)
     → file_said names i text ≡ Ok v → IsFalse (is_nothing v)
 unfolding file_said
-something names i text v e = by (lines_said names i 1 (pieces 10 text)) e
+something names i text v e = by (lines_said names i false 1 (pieces 10 text)) e
   where
     by : (said : FileSaid) → unless_nothing said ≡ Ok v → is_nothing v ≡ false
     by (Err f) e = cc

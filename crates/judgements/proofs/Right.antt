@@ -3,8 +3,6 @@ use Rattle.std.proofs.Common.{◌≡◌, ◌∙◌, ◌<◌, ◌≤◌, ℕ, Lis
 use Rattle.std.proofs.lemmas.Option.{same_Some, slice_get-get_or, slice_get_within}
 use Rattle.image_file.specs.ImageValue.{ImageValue}
 use Rattle.judgements.specs.Severity.{severity_of}
-use Rattle.judgements.specs.Right.{IsRightCase}
-use Rattle.judgements.specs.Shown.{IsCaseJudged}
 use Rattle.judgements.specs.Verdicts.{AreCasesJudged, AreRightCases, IsWorst, DecidesRight}
 use Rattle.judgements.specs.declared.cases.Case.{Case}
 use Rattle.judgements.specs.declared.cases.AskedJudging.{AskedJudging}

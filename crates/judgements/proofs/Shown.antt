@@ -1,5 +1,5 @@
 -- What decides a verdict by seeds, where it is called not decided in place of right.
-use Rattle.std.proofs.Common.{◌≡◌, List, inl, inr, refl}
+use Rattle.std.proofs.Common.{◌≡◌, List, inr, refl}
 use Rattle.image_file.specs.ImageValue.{ImageValue}
 use Rattle.expectation_files.specs.declared.requirements.Requirements.{Requirements}
 use Rattle.seed_verdicts.specs.declared.run_flaw.Seeds.{Seeds}
@@ -12,7 +12,6 @@ use Rattle.judgements.specs.declared.case_judgements.Reason.{Reason}
 use Rattle.judgements.specs.declared.case_judgements.Reason.TheVariants as reason
 use Rattle.judgements.specs.declared.end_flaws.EndFlaw.{EndFlaw}
 use Rattle.judgements.specs.declared.end_flaws.EndFlaw.TheVariants as flaw
-use Rattle.judgements.specs.declared.verdict_kinds.VerdictKind.{VerdictKind}
 use Rattle.judgements.specs.declared.verdict_kinds.VerdictKind.TheVariants as verdict
 
 -- no flaw is right
@@ -43,3 +42,5 @@ as_not_decided image required seeds ends (reason.NoRun claim) h = let e = h.verd
 as_not_decided image required seeds ends reason.NoRunCan h = absurd cc
 as_not_decided image required seeds ends (reason.Rule rule) h = let e = h.verdict in absurd cc
 as_not_decided image required seeds ends (reason.Absent number fault) h = absurd h
+as_not_decided image required seeds ends (reason.Lacking name) h = absurd h
+as_not_decided image required seeds ends (reason.NotGiven number) h = absurd h

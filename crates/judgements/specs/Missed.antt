@@ -1,6 +1,5 @@
 -- Which line of a file of expectations is not met.
 use Rattle.std.specs.Prelude.{ℕ, List, Option, Some, None, slice_get}
-use Rattle.std.specs.Option.{option_map}
 use Rattle.end_kinds.specs.declared.kinds.EndKind.{EndKind}
 use Rattle.end_kinds.specs.declared.kinds.EndKind.TheVariants as kind
 use Rattle.space_ends.specs.declared.end_values.SpaceEnd.{SpaceEnd}
@@ -54,6 +53,8 @@ missed_for ends (reason.NoRun claim) = Some (line.Claim claim)
 missed_for ends reason.NoRunCan = Some line.Busy
 missed_for ends (reason.Rule place) = Some (line.Rule place)
 missed_for ends (reason.Absent number fault) = Some (line.Absent number fault)
+missed_for ends (reason.Lacking name) = None
+missed_for ends (reason.NotGiven number) = None
 
 -- the line that is not met by what decides
 abbrev pub missed_by : CaseJudgement → Option MissedLine

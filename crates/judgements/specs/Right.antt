@@ -9,7 +9,7 @@ use Rattle.schedule_verdicts.specs.ShownClaims.{IsRightThroughout}
 use Rattle.seed_verdicts.specs.Seeds.{AreJudged}
 use Rattle.seed_verdicts.specs.ShownBySeeds.{AreShownBySeeds}
 use Rattle.seed_verdicts.specs.declared.run_flaw.Seeds.{Seeds}
-use Rattle.judgements.specs.Cases.{program_by, said_by, seeds_of}
+use Rattle.judgements.specs.Cases.{program_by, said_by, seeds_of, SpeaksOfGivenIn}
 use Rattle.judgements.specs.declared.cases.Case.{Case}
 use Rattle.judgements.specs.declared.cases.AskedJudging.{AskedJudging}
 
@@ -31,9 +31,10 @@ IsRightAsAsked (Some bounds) seeds image required = IsRightBySchedules image req
 IsRightAsAsked None seeds image required = IsRightBySeeds image required seeds
 
 -- A submission of this image and text is right by a case: what the case says of the program that it makes of the submission
--- is something, that program keeps the rules, and it is right as it was asked.
+-- is something, and of no other words than the case gives, that program keeps the rules, and it is right as it was asked.
 pub record IsRightCase (asked : AskedJudging) (image : ImageValue) (text : List ℕ) (case : Case) : Type 0 where
   pub required : Requirements
-  pub said : said_by case (program_by image case) text ≡ Ok (requirements_seen required)
-  pub judged : IsJudged (program_by image case) required
-  pub right : IsRightAsAsked asked.explored (seeds_of asked) (program_by image case) required
+  pub said : said_by case (program_by image text case) text ≡ Ok (requirements_seen required)
+  pub given : SpeaksOfGivenIn (program_by image text case) text case case.cells required
+  pub judged : IsJudged (program_by image text case) required
+  pub right : IsRightAsAsked asked.explored (seeds_of asked) (program_by image text case) required

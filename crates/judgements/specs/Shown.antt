@@ -1,10 +1,8 @@
 -- What shows a verdict.
-use Rattle.std.specs.Prelude.{◌≡◌, ◌⊎◌, ℕ, ⊤, List, Option, Some, None, Ok, Err, not}
+use Rattle.std.specs.Prelude.{◌≡◌, ◌⊎◌, ℕ, List, Some, Ok, Err, not, Bool, if◌then◌else◌}
 use Rattle.std.specs.List.{position}
 use Rattle.image_file.specs.ImageValue.{ImageValue}
-use Rattle.lab_requests.specs.declared.requests.Bounds.{Bounds}
 use Rattle.program_rules.specs.Keeping.{is_kept}
-use Rattle.expectation_files.specs.Judged.{IsJudged}
 use Rattle.expectation_files.specs.Seen.{requirements_seen}
 use Rattle.expectation_files.specs.declared.faults.FileFault.TheVariants as file
 use Rattle.expectation_files.specs.declared.faults.LineFault.{LineFault}
@@ -12,11 +10,11 @@ use Rattle.expectation_files.specs.declared.requirements.Requirements.{Requireme
 use Rattle.seed_verdicts.specs.Seeds.{AreJudged}
 use Rattle.seed_verdicts.specs.ShownBySeeds.{IsUnshownBySeeds}
 use Rattle.seed_verdicts.specs.declared.run_flaw.Seeds.{Seeds}
-use Rattle.seed_verdicts.specs.declared.run_flaw.SeedFlaw.{SeedFlaw}
 use Rattle.space_ends.specs.declared.end_values.SpaceEnd.{SpaceEnd}
+use Rattle.case_cells.specs.NamedWords.{name_lacking}
 use Rattle.judgements.specs.Cases.{program_by, said_by, seeds_of}
-use Rattle.judgements.specs.Flaws.{kind_of_run, kind_of_end, ShowsAt, ShowNothing}
-use Rattle.judgements.specs.Right.{IsRightAsAsked, IsRightCase}
+use Rattle.judgements.specs.Flaws.{kind_of_run, kind_of_end, ShowsAt}
+use Rattle.judgements.specs.Right.{IsRightCase}
 use Rattle.judgements.specs.declared.cases.Case.{Case}
 use Rattle.judgements.specs.declared.cases.AskedJudging.{AskedJudging}
 use Rattle.judgements.specs.declared.case_judgements.CaseJudgement.{CaseJudgement}
@@ -65,6 +63,8 @@ IsShownFor image required seeds ends kind (reason.NoRun claim) = IsUnshownByRuns
 IsShownFor image required seeds ends kind reason.NoRunCan = kind ≡ verdict.NotDecided
 IsShownFor image required seeds ends kind (reason.Rule rule) = IsShownByRule image required kind rule
 IsShownFor image required seeds ends kind (reason.Absent number fault) = ⊥
+IsShownFor image required seeds ends kind (reason.Lacking name) = ⊥
+IsShownFor image required seeds ends kind (reason.NotGiven number) = ⊥
 
 abbrev pub IsShownBy : ImageValue → Requirements → Seeds → CaseJudgement → Type 0
 IsShownBy image required seeds j = IsShownFor image required seeds j.ends.items j.kind j.reason
@@ -73,19 +73,42 @@ IsShownBy image required seeds j = IsShownFor image required seeds j.ends.items 
 pub record IsReadCase (asked : AskedJudging) (image : ImageValue) (text : List ℕ) (case : Case) (j : CaseJudgement)
     : Type 0 where
   pub required : Requirements
-  pub said : said_by case (program_by image case) text ≡ Ok (requirements_seen required)
-  pub shown : IsShownBy (program_by image case) required (seeds_of asked) j
+  pub said : said_by case (program_by image text case) text ≡ Ok (requirements_seen required)
+  pub shown : IsShownBy (program_by image text case) required (seeds_of asked) j
 
 -- The case speaks of something that the submission lacks: nothing is known against the submission.
 pub record IsAbsent (image : ImageValue) (text : List ℕ) (case : Case) (j : CaseJudgement) : Type 0 where
   pub number : ℕ
   pub fault : LineFault
   pub reason : j.reason ≡ reason.Absent number fault
-  pub said : said_by case (program_by image case) text ≡ Err (file.Line number fault)
+  pub said : said_by case (program_by image text case) text ≡ Err (file.Line number fault)
   pub kind : j.kind ≡ verdict.NotJudged
+
+-- what a submission is that lacks a name of a case's words: refused, where the names are asked for
+abbrev pub kind_without_name : Bool → VerdictKind
+kind_without_name asked = if asked then verdict.SourceFault else verdict.NotJudged
+
+-- The submission lacks the words of a name of the case's cells, the first such name: nothing of it runs.
+pub record IsLacking (asked : AskedJudging) (text : List ℕ) (case : Case) (j : CaseJudgement) : Type 0 where
+  pub name : ℕ
+  pub reason : j.reason ≡ reason.Lacking name
+  pub first : name_lacking asked.needs_names case.given.items text ≡ Some name
+  pub kind : j.kind ≡ kind_without_name asked.needs_names
+
+-- A line of the case speaks of a word that the case does not give, or that stands elsewhere in the submission: nothing is
+-- known against the submission.
+pub record IsNotGiven (j : CaseJudgement) : Type 0 where
+  pub number : ℕ
+  pub reason : j.reason ≡ reason.NotGiven number
+  pub kind : j.kind ≡ verdict.NotJudged
+
+-- why a submission is not judged by a case
+abbrev pub IsUnjudged : AskedJudging → ImageValue → List ℕ → Case → CaseJudgement → Type 0
+IsUnjudged asked image text case j =
+    IsAbsent image text case j ⊎ (IsLacking asked text case j ⊎ IsNotGiven j)
 
 -- What is known of a submission by a case: right is so, and what is not right is shown.
 pub record IsCaseJudged (asked : AskedJudging) (image : ImageValue) (text : List ℕ) (case : Case) (j : CaseJudgement)
     : Type 0 where
   pub right : j.kind ≡ verdict.Right → IsRightCase asked image text case
-  pub shown : IsReadCase asked image text case j ⊎ IsAbsent image text case j
+  pub shown : IsReadCase asked image text case j ⊎ IsUnjudged asked image text case j

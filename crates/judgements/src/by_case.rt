@@ -1,12 +1,12 @@
 //! What is known of a submission by one case.
 
-ghost use Rattle.std.specs.Prelude.{◌≡◌, not, IsTrue, IfOk, IfNone};
+ghost use Rattle.std.specs.Prelude.{◌≡◌, ◌⊎◌, not, IsTrue, IfOk, IfNone};
 ghost use Rattle.std.specs.List.{position};
 ghost use Rattle.program_rules.specs.Keeping.{is_kept};
 ghost use Rattle.expectation_files.specs.Judged.{are_rules_kept};
-ghost use Rattle.judgements.specs.Cases.{seeds_of};
+ghost use Rattle.judgements.specs.Cases.{seeds_of, SpeaksOfGivenIn};
 ghost use Rattle.judgements.specs.Right.{IsRightAsAsked};
-ghost use Rattle.judgements.specs.Shown.{IsCaseJudged, IsShownBy};
+ghost use Rattle.judgements.specs.Shown.{IsCaseJudged, IsShownBy, IsNotGiven, kind_without_name};
 
 use crate::by_schedules::{JudgedProgram, judged_by_schedules};
 use crate::by_seeds::judged_by_seeds;
@@ -14,8 +14,10 @@ use crate::case_judgements::{CaseJudgement, Reason};
 use crate::cases::{AskedJudging, Case, Submission, image_by, image_or};
 use crate::judge_faults::CaseFault;
 use crate::knowledge::Known;
-use crate::requirements::required_by;
+use crate::requirements::{line_not_given, required_by};
+use crate::thorough::judged_thoroughly;
 use crate::verdict_kinds::VerdictKind;
+use case_cells::name_lacking;
 use expectation_files::{FileFault, LineFault, LineFaultKind, line_of, word_of};
 use program_rules::first_broken;
 use program_searches::Console;
@@ -35,18 +37,71 @@ pub(crate) fn judged_by_case<X: Threads + Sync, C: Clock, E: Write>(
 ) -> Result<CaseJudgement, CaseFault>
     ensures { IfOk result (λ j. IsCaseJudged asked submission.entry.image.now submission.entry.text.now case.now j) }
 {
-    let given = image_by(alloc, submission.image, case)?;
+    if let Some(name) = name_lacking(alloc, asked.needs_names, &case.given, submission.text)? {
+        return Ok(judged_without_name(alloc, asked, name));
+    }
+    let given = image_by(alloc, submission.image, submission.text, case)?;
     let image = image_or(&given, submission.image);
     match required_by(alloc, case, image, submission.text) {
         Ok(required) => {
-            let required = &required;
-            judged_program(rt, alloc, asked, JudgedProgram { image, required }, console)
+            let judged = JudgedProgram {
+                image,
+                required: &required,
+            };
+            judged_by_lines(rt, alloc, asked, case, submission.text, judged, console)
         }
         Err(FileFault::Line { line, fault }) if is_of_program(case, line, fault) => {
             let reason = Reason::Absent { line, fault };
             Ok(CaseJudgement::plain(alloc, VerdictKind::NotJudged, Known::NOTHING, reason))
         }
         Err(fault) => Err(CaseFault::of_file(fault)),
+    }
+}
+
+/// What is known of a submission that lacks the words of the name at this place.
+fn judged_without_name(alloc: Global, asked: AskedJudging, name: usize) -> CaseJudgement
+    ensures kind { result.kind ≡ kind_without_name asked.needs_names }
+    ensures reason { result.reason ≡ Reason.Lacking name }
+{
+    let reason = Reason::Lacking { name };
+    CaseJudgement::plain(alloc, kind_without_name(asked), Known::NOTHING, reason)
+}
+
+/// What is known of the program that a case makes of a submission of this text, and of which it requires this: nothing, where
+/// a line of the case speaks of a word that the case does not give.
+fn judged_by_lines<X: Threads + Sync, C: Clock, E: Write>(
+    rt: &X,
+    alloc: Global,
+    asked: AskedJudging,
+    case: &Case,
+    text: &[u8],
+    judged: JudgedProgram<'_>,
+    console: &mut Console<'_, C, E>,
+) -> Result<CaseJudgement, CaseFault>
+    ensures given { IfOk result (λ j. j.kind ≡ VerdictKind.Right → SpeaksOfGivenIn
+        judged.entry.image.now text.entry.now case.entry.now case.entry.now.cells judged.entry.required.now) }
+    ensures right { IfOk result (λ j. j.kind ≡ VerdictKind.Right
+        → IsRightAsAsked asked.explored (seeds_of asked) judged.entry.image.now judged.entry.required.now) }
+    ensures kept { IfOk result (λ j. j.kind ≡ VerdictKind.Right
+        → IsTrue (are_rules_kept judged.entry.image.now judged.entry.required.now.rules.items)) }
+    ensures shown { IfOk result (λ j.
+        IsShownBy judged.entry.image.now judged.entry.required.now (seeds_of asked) j ⊎ IsNotGiven j) }
+{
+    if let Some(line) = line_not_given(alloc, case, judged.image, text, judged.required)? {
+        let reason = Reason::NotGiven { line };
+        return Ok(CaseJudgement::plain(alloc, VerdictKind::NotJudged, Known::NOTHING, reason));
+    }
+    judged_program(rt, alloc, asked, judged, console)
+}
+
+/// What a submission is that lacks a name of a case's words.
+fn kind_without_name(asked: AskedJudging) -> VerdictKind
+    ensures { result ≡ kind_without_name asked.needs_names }
+{
+    if asked.needs_names {
+        VerdictKind::SourceFault
+    } else {
+        VerdictKind::NotJudged
     }
 }
 
@@ -91,6 +146,9 @@ fn judged_program<X: Threads + Sync, C: Clock, E: Write>(
         return Ok(CaseJudgement::plain(alloc, VerdictKind::Wrong, Known::NOTHING, reason));
     }
     match asked.explored {
+        Some(bounds) if asked.is_thorough => {
+            Ok(judged_thoroughly(rt, alloc, asked, bounds, judged, console)?)
+        }
         Some(bounds) => Ok(judged_by_schedules(rt, alloc, asked, bounds, judged, console)?),
         None => Ok(judged_by_seeds(rt, alloc, asked, judged.image, judged.required)?),
     }

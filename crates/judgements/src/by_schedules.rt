@@ -19,7 +19,7 @@ use expectation_files::Requirements;
 use image_file::Image;
 use lab_requests::Bounds;
 use program_searches::{Console, Explored, ProgramSearch, explore_program};
-use std::alloc::{AllocError, Global};
+use std::alloc::Global;
 use std::io::Write;
 use std::thread::Threads;
 use std::time::Clock;
@@ -31,6 +31,15 @@ pub(crate) struct JudgedProgram<'a> {
     pub image: &'a Image,
     /// What the case requires of it.
     pub required: &'a Requirements,
+}
+
+/// What a search among the schedules of a program says of it.
+#[derive(Drop)]
+pub(crate) struct SearchJudgement {
+    /// It, by what the search found alone.
+    pub judgement: CaseJudgement,
+    /// Whether the search has shown each claim that has to hold of one world at least.
+    pub is_shown: bool,
 }
 
 /// What every schedule says of a program: the first that holds of any of its ends of a trap, a deadlock, a wrong end, a
@@ -49,6 +58,26 @@ pub(crate) fn judged_by_schedules<X: Threads + Sync, C: Clock, E: Write>(
         → IsRightBySchedules judged.entry.image.now judged.entry.required.now) }
     ensures shown { IfOk result (λ j. IsShownBy judged.entry.image.now judged.entry.required.now (seeds_of asked) j) }
 {
+    let searched = searched(alloc, bounds, judged, console)?;
+    if searched.judgement.kind != VerdictKind::NotDecided {
+        return Ok(searched.judgement);
+    }
+    let sampled = judged_by_seeds(rt, alloc, asked, judged.image, judged.required)?;
+    Ok(undecided(sampled, searched))
+}
+
+/// What a search of a program that goes so far says of it.
+pub(crate) fn searched<C: Clock, E: Write>(
+    alloc: Global,
+    bounds: Bounds,
+    judged: JudgedProgram<'_>,
+    console: &mut Console<'_, C, E>,
+) -> Result<SearchJudgement, CaseFault>
+    ensures right { IfOk result (λ s. s.judgement.kind ≡ VerdictKind.Right
+        → IsRightBySchedules judged.entry.image.now judged.entry.required.now) }
+    ensures shown { IfOk result (λ s. (seeds : Seeds)
+        → IsShownBy judged.entry.image.now judged.entry.required.now seeds s.judgement) }
+{
     let search = ProgramSearch {
         required: judged.required,
         begin: &[],
@@ -58,10 +87,10 @@ pub(crate) fn judged_by_schedules<X: Threads + Sync, C: Clock, E: Write>(
     let found = explore_program(alloc, judged.image, &search, console)?;
     let is_shown = found.unshown.is_none();
     let judgement = judged_by_search(alloc, found);
-    if judgement.kind != VerdictKind::NotDecided {
-        return Ok(judgement);
-    }
-    Ok(undecided(rt, alloc, asked, judged, judgement, is_shown)?)
+    Ok(SearchJudgement {
+        judgement,
+        is_shown,
+    })
 }
 
 /// What a search says of a program.
@@ -107,27 +136,19 @@ fn known_of(found: &Explored<'_>) -> Known {
     }
 }
 
-/// What is known of a program of which a search did not decide: what random schedules say, and all that was looked at. Where
-/// `is_shown`, the search has shown each claim that has to hold of one world at least.
-fn undecided<X: Threads + Sync>(
-    rt: &X,
-    alloc: Global,
-    asked: AskedJudging,
-    judged: JudgedProgram<'_>,
-    searched: CaseJudgement,
-    is_shown: bool,
-) -> Result<CaseJudgement, AllocError>
-    ensures right { IfOk result (λ j. ¬ (j.kind ≡ VerdictKind.Right)) }
-    ensures shown { IfOk result (λ j. IsShownBy judged.entry.image.now judged.entry.required.now (seeds_of asked) j) }
+/// What is known of a program that a search did not decide: what random schedules say, and all that was looked at.
+pub(crate) fn undecided(sampled: CaseJudgement, searched: SearchJudgement) -> CaseJudgement
+    ensures right { ¬ (result.kind ≡ VerdictKind.Right) }
+    ensures shown { (image : ImageValue) (required : Requirements) (seeds : Seeds)
+        → IsShownBy image required seeds sampled → IsShownBy image required seeds result }
 {
-    let sampled = judged_by_seeds(rt, alloc, asked, judged.image, judged.required)?;
-    let mut judgement = not_decided(sampled, is_shown);
+    let mut judgement = not_decided(sampled, searched.is_shown);
     judgement.known = Known {
         seeds: judgement.known.seeds,
-        ..searched.known
+        ..searched.judgement.known
     };
-    judgement.status = judgement.status.worse(searched.status);
-    Ok(judgement)
+    judgement.status = judgement.status.worse(searched.judgement.status);
+    judgement
 }
 
 /// The judgement by seeds of a program of which a search did not decide: it is not decided in place of right. Where

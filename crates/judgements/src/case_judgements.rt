@@ -55,10 +55,21 @@ pub enum Reason {
         /// What the program lacks.
         fault: LineFault,
     },
+    /// That the submission has no words of the name at this place among those of the case's cells, or fewer.
+    Lacking {
+        /// The place.
+        name: usize,
+    },
+    /// That the line of this number, from 1, speaks of a word that the case does not give, or that stands elsewhere in the
+    /// submission.
+    NotGiven {
+        /// The number.
+        line: usize,
+    },
 }
 
 /// What shows that a submission is not right.
-#[derive(Drop)]
+#[derive(Clone, Drop)]
 pub enum Witness {
     /// Nothing, or nothing that runs.
     None,
@@ -139,7 +150,9 @@ impl CaseJudgement {
             | Reason::NoRun { .. }
             | Reason::NoRunCan
             | Reason::Rule(_)
-            | Reason::Absent { .. } => Ok(Witness::None),
+            | Reason::Absent { .. }
+            | Reason::Lacking { .. }
+            | Reason::NotGiven { .. } => Ok(Witness::None),
         }
     }
 
@@ -148,7 +161,7 @@ impl CaseJudgement {
         ensures { result ≡ missed_by self.now }
     {
         match &self.reason {
-            Reason::Looked => None,
+            Reason::Looked | Reason::Lacking { .. } | Reason::NotGiven { .. } => None,
             Reason::Run(run) => missed_in(run.flaw, run.end.judgement.missed),
             Reason::End(place) => match self.ends.get(*place) {
                 Some(end) => line_missed_by(end),

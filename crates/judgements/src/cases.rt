@@ -3,7 +3,7 @@
 ghost use Rattle.std.specs.Prelude.{◌≡◌, IfOk, unwrap_or};
 ghost use Rattle.judgements.specs.Cases.{given_image};
 
-use case_cells::with_cells_of;
+use case_cells::{image_with_cells, places_by_name};
 use image_file::Image;
 use lab_requests::Bounds;
 use std::alloc::{AllocError, Global};
@@ -17,7 +17,7 @@ pub struct Case {
     pub path: String,
     /// Its text.
     pub expected: Vec<u8>,
-    /// An image with the cells that take the place of a submission's own.
+    /// An image with the cells that replace words of a submission.
     pub cells: Option<Image>,
     /// The text of these cells; empty where there are none.
     pub given: Vec<u8>,
@@ -37,6 +37,10 @@ pub struct Submission<'a> {
 pub struct AskedJudging {
     /// Every schedule before seeds, and how far they are looked for, of each case.
     pub explored: Option<Bounds>,
+    /// Whether seeds come before every schedule, and the search is made again with more megabytes while these end it.
+    pub is_thorough: bool,
+    /// Whether a submission that lacks a name of a case's words is refused.
+    pub needs_names: bool,
     /// How many seeds, from 0 on.
     pub seeds: usize,
     /// The most steps of the run of each.
@@ -47,12 +51,23 @@ pub struct AskedJudging {
     pub is_spread: bool,
 }
 
-/// The image with a case's cells in place of its own; None where the case has none.
-pub fn image_by(alloc: Global, image: &Image, case: &Case) -> Result<Option<Image>, AllocError>
-    ensures { IfOk result (λ given. given ≡ given_image image.now case.now.cells) }
+/// The program that a case makes of a submission of this image and text, by the case's cells; None where the case has none.
+/// If each line of the cells has a name, and the text gives the words of each name, these words alone are replaced. Else the
+/// cells replace the submission's from the first on, and what it has more stays after them.
+pub fn image_by(
+    alloc: Global,
+    image: &Image,
+    text: &[u8],
+    case: &Case,
+) -> Result<Option<Image>, AllocError>
+    ensures { IfOk result (λ given. given ≡ given_image image.now text.now case.now) }
 {
     match &case.cells {
-        Some(cells) => Ok(Some(with_cells_of(alloc, image, cells)?)),
+        Some(cells) => {
+            let places = places_by_name(alloc, &case.given, text)?;
+            let image = image_with_cells(alloc, image, &places, cells)?;
+            Ok(Some(image))
+        }
         None => Ok(None),
     }
 }

@@ -12,6 +12,7 @@ mod judge_faults;
 mod knowledge;
 mod requirements;
 mod submissions;
+mod thorough;
 mod verdict_kinds;
 
 pub use case_judgements::{CaseJudgement, MissedLine, Reason, ShownRun, Witness, line_missed_by};

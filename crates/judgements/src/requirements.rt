@@ -1,21 +1,25 @@
 //! What a case requires of a submission.
 
-ghost use Rattle.std.specs.Prelude.{◌≡◌, Ok, Err, IfOk, IfErr};
+ghost use Rattle.std.specs.Prelude.{◌≡◌, Ok, Err, IfOk, IfErr, IfNone, length};
 ghost use Rattle.expectation_files.specs.Seen.{requirements_seen};
 ghost use Rattle.expectation_files.specs.Files.{file_said};
 ghost use Rattle.expectation_files.specs.Addresses.{Names};
 ghost use Rattle.expectation_files.specs.declared.faults.FileFault.TheVariants as file;
 ghost use Rattle.source_places.specs.SourcePlaces.{data_names_seen, labels_seen};
-ghost use Rattle.judgements.specs.Cases.{said_by};
+ghost use Rattle.case_cells.specs.NamedWords.{places_seen};
+ghost use Rattle.judgements.specs.Cases.{said_by, said_in_submission, said_in_case, places_or, SpeaksOfGivenIn};
 
 use crate::cases::Case;
+use crate::judge_faults::CaseFault;
+use case_cells::{WordPlaces, first_other, places_by_name, spoken_words};
 use expectation_files::{FileFault, KnownNames, Requirements, read_requirements};
 use image_file::Image;
 use source_places::{DataName, SourceLabel, SourcePlaces};
-use std::alloc::Global;
+use std::alloc::{AllocError, Global};
 
-/// What a case requires of a program with the case's cells and the text of a submission. The names of data words are those
-/// of the case's cells, where these have some, and else the submission's own; labels are the submission's.
+/// What a case requires of a program with the case's cells and the text of a submission. Labels are the submission's, and so
+/// are the names of data words, if the case's cells stand at the words of their names. Else they are those of the case's
+/// cells, where these have some, and else the submission's own.
 pub fn required_by(
     alloc: Global,
     case: &Case,
@@ -25,12 +29,101 @@ pub fn required_by(
     ensures means { IfOk result (λ r. said_by case.now image.now text.now ≡ Ok (requirements_seen r)) }
     ensures fault { IfErr result (λ f. ¬ (f ≡ file.NoMemory) → said_by case.now image.now text.now ≡ Err f) }
 {
+    match places_by_name(alloc, &case.given, text)? {
+        Some(_) => required_in_submission(alloc, case, image, text),
+        None => required_in_case(alloc, case, image, text),
+    }
+}
+
+/// The same by the places of the submission's words: their names are its own.
+fn required_in_submission(
+    alloc: Global,
+    case: &Case,
+    image: &Image,
+    text: &[u8],
+) -> Result<Requirements, FileFault>
+    ensures means { IfOk result (λ r. said_in_submission case.now image.now text.now ≡ Ok (requirements_seen r)) }
+    ensures fault { IfErr result (λ f. ¬ (f ≡ file.NoMemory) → said_in_submission case.now image.now text.now ≡ Err f) }
+{
+    let own = SourcePlaces::of(alloc, text)?;
+    read_by(alloc, case, image, own.data_names(), own.labels())
+}
+
+/// The same by the places of the case's own words: the names of data words are those of the case's cells, where these have
+/// some, and else the submission's own.
+fn required_in_case(
+    alloc: Global,
+    case: &Case,
+    image: &Image,
+    text: &[u8],
+) -> Result<Requirements, FileFault>
+    ensures means { IfOk result (λ r. said_in_case case.now image.now text.now ≡ Ok (requirements_seen r)) }
+    ensures fault { IfErr result (λ f. ¬ (f ≡ file.NoMemory) → said_in_case case.now image.now text.now ≡ Err f) }
+{
     let given = SourcePlaces::of(alloc, &case.given)?;
     let own = SourcePlaces::of(alloc, text)?;
     if given.data_names().is_empty() {
         read_by(alloc, case, image, own.data_names(), own.labels())
     } else {
         read_by(alloc, case, image, given.data_names(), own.labels())
+    }
+}
+
+/// The number, from 1, of the first line of a case that speaks of a word which the case's cells do not give, or which is
+/// another one in the submission: of those about the end, and then of the claims. None if the case has no cells.
+pub(crate) fn line_not_given(
+    alloc: Global,
+    case: &Case,
+    image: &Image,
+    text: &[u8],
+    required: &Requirements,
+) -> Result<Option<usize>, CaseFault>
+    ensures { IfOk result (λ line. IfNone line
+        (SpeaksOfGivenIn image.now text.now case.now case.now.cells required.now)) }
+{
+    let Some(cells) = &case.cells else {
+        return Ok(None);
+    };
+    let in_case = match required_in_case(alloc, case, image, text) {
+        Ok(in_case) => in_case,
+        Err(FileFault::Line { line, .. }) => return Ok(Some(line)),
+        Err(fault) => return Err(CaseFault::of_file(fault)),
+    };
+    let places = places_or(alloc, places_by_name(alloc, &case.given, text)?, cells)?;
+    let given = spoken_words(alloc, &in_case)?;
+    let own = spoken_words(alloc, required)?;
+    match first_other(&places, &given, &own) {
+        Some(place) => Ok(Some(line_number(required, place))),
+        None => Ok(None),
+    }
+}
+
+/// The places, or that all of these cells stand in the submission from its first word on.
+fn places_or(
+    alloc: Global,
+    places: Option<Vec<WordPlaces>>,
+    cells: &Image,
+) -> Result<Vec<WordPlaces>, AllocError>
+    ensures { IfOk result (λ v. v.items ≡ places_or (places_seen places) (length cells.now.cells)) }
+{
+    if let Some(places) = places {
+        return Ok(places);
+    }
+    let mut places = Vec::new(alloc);
+    places.push(WordPlaces {
+        given: 0,
+        own: 0,
+        count: cells.cells().len(),
+    })?;
+    Ok(places)
+}
+
+/// The number of the line at a place among those about the end, and then the claims.
+fn line_number(required: &Requirements, place: usize) -> usize {
+    let (ends, claims) = (required.end_lines(), required.claim_lines());
+    match ends.iter().chain(claims.iter()).nth(place) {
+        Some(line) => line.number,
+        None => 0,
     }
 }
 

@@ -50,9 +50,11 @@ impl VerdictKind {
     /// What it means for the exit status.
     pub fn status(self) -> Status {
         match self {
-            VerdictKind::NotRead | VerdictKind::SourceFault => Status::Fault,
             VerdictKind::Deadlock => Status::Deadlock,
-            VerdictKind::Trap | VerdictKind::Wrong => Status::Unexpected,
+            VerdictKind::NotRead
+            | VerdictKind::SourceFault
+            | VerdictKind::Trap
+            | VerdictKind::Wrong => Status::Unexpected,
             VerdictKind::RanOutOfSteps
             | VerdictKind::Spins
             | VerdictKind::NotJudged

@@ -31,8 +31,8 @@ pub(crate) enum Presence {
     Free,
     /// It has to be there.
     Needed,
-    /// It has to be there, unless the option of this name is.
-    NeededWithout(&'static str),
+    /// It has to be there, unless an option of these names is.
+    NeededWithout(&'static [&'static str]),
     /// It does not go with the options of these names.
     Without(&'static [&'static str]),
     /// It says nothing without the argument of this name, and so goes only with it.
@@ -92,7 +92,7 @@ fn with_presence<'a>(parser: Arg<'a>, presence: Presence) -> Result<Arg<'a>, All
     match presence {
         Presence::Free => Ok(parser),
         Presence::Needed => Ok(parser.required(true)),
-        Presence::NeededWithout(other) => parser.required_unless_present(other),
+        Presence::NeededWithout(others) => parser.required_unless_present_any(others),
         Presence::Without(excluded) => parser.conflicts_with_all(excluded),
         Presence::With(needed) => parser.requires_arg(needed),
     }

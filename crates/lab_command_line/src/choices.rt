@@ -1,7 +1,7 @@
 //! The words that arguments take, and what each means, in the same order. What a word is read as, what help lists and what
 //! the completions offer are these.
 
-use lab_requests::{Colours, FileKind, GradeFormat};
+use lab_requests::{Colours, FileKind, GradeFormat, Undecided};
 
 /// The words for the kinds of files that `check` judges.
 pub(crate) const KIND_WORDS: [&str; 4] = ["source", "image", "schedule", "expectations"];
@@ -15,16 +15,23 @@ pub(crate) const KINDS: [FileKind; 4] = [
 ];
 
 /// The words for how the answer of `grade` is written.
-pub(crate) const FORMAT_WORDS: [&str; 5] = ["text", "tsv", "json", "junit", "gradescope"];
+pub(crate) const FORMAT_WORDS: [&str; 6] = ["text", "tsv", "json", "junit", "gradescope", "moodle"];
 
 /// The formats.
-pub(crate) const FORMATS: [GradeFormat; 5] = [
+pub(crate) const FORMATS: [GradeFormat; 6] = [
     GradeFormat::Text,
     GradeFormat::Tsv,
     GradeFormat::Json,
     GradeFormat::Junit,
     GradeFormat::Gradescope,
+    GradeFormat::Moodle,
 ];
+
+/// The words for what a case that is not decided counts as.
+pub(crate) const UNDECIDED_WORDS: [&str; 2] = ["right", "wrong"];
+
+/// What it counts as.
+pub(crate) const UNDECIDED: [Undecided; 2] = [Undecided::Right, Undecided::Wrong];
 
 /// The words for when lines have colours.
 pub(crate) const COLOUR_WORDS: [&str; 3] = ["auto", "always", "never"];

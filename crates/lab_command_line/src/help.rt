@@ -4,9 +4,10 @@
 pub(crate) const STATUSES: &str = "\
 Exit status:
   0  done, and all is as expected
-  1  an error: standard error says what is wrong, or the table of grade does
+  1  an error: standard error says what is wrong
   2  the command line asks for no command
-  3  some end is not as expected        4  some end is a deadlock
+  3  some end is not as expected, or a submission of grade is no program or not read
+  4  some end is a deadlock
   5  some run ran out of steps, a loop never ends (spinning), or a search did not come to its end";
 
 pub(crate) const TOOL: &str = "\
@@ -48,9 +49,10 @@ processor and stream. fair takes the processors in turn, and in each its streams
 takes any running stream. The schedule ends when no stream runs, when no stream can go on, or
 after --steps. Standard error says which.
 
-The seed modulo 4 is the rule of random. 0: any running stream at each step. 1: a stream goes on
-for 8 steps on average. 2: for 32 steps. 3: by priorities, of which two fall during the run. In
-1 to 3 a blocked stream does not step while another can.
+The seed modulo 8 is the rule of random. 0: any running stream at each step. 1 and 5: a stream
+goes on for 8 steps on average. 2 and 6: for 32 steps. 3 and 7: by priorities, of which two fall
+during the run. 4: for up to 7500 steps one stream does not step while another can. In 1 to 7 a
+blocked stream does not step while another can.
 
 Example:
   mta_lab schedule random lock.asm --seed 7 > found.schedule";
@@ -127,20 +129,30 @@ pub(crate) const GRADE: &str = "\
 Judges submissions, a line for each: right, wrong, a deadlock, a trap, out of steps, a source with
 errors or not read, and what shows it. Each runs by many random schedules; the first seed whose run
 is not right decides. --explore tries every schedule. If its bounds end that search before it finds
-anything, the submission runs by the random schedules too.
+anything, the submission runs by the random schedules too. --thorough runs the random schedules
+first, and tries every schedule of what they find right.
 
 A file of --expect has lines about the end of a run, lines always .. and never .. about every state
 of the run, and lines some .. that one state has to show (mta_lab explore --help). With --cases each
-submission is judged by every case of a folder, in the order of their names: NAME.data replaces its
-cells, and NAME.expect says what the end has to be. All have to be right. Only regular files are
-read, and - is standard input.
+submission is judged by every case of a folder, in the order of their names: NAME.data replaces
+words of it, by their names if it has these, and NAME.expect says what the end has to be. All have
+to be right. Only regular files are read, and - is standard input.
 
 --pages FOLDER writes the run that shows why a submission is not right as a page for a browser,
 FOLDER/NAME.html of NAME.asm. With --explore it is a page of all schedules (mta_lab play), if the
 program has no more than 100000 states.
 
+A case has the points that a line points N of its NAME.expect says, and one without such a line.
+After a line hidden no text for students has its values. --feedback FOLDER writes a text for the
+student of each submission, FOLDER/NAME.txt, and its page beside it.
+
+--results FILE.jsonl keeps each result with checksums of all that it depends on. A call that finds
+results there takes those that still hold, and judges the others: so a call that was stopped goes
+on. --part 2/8 judges the second of eight parts. --merge makes one table of such files.
+
 Examples:
   mta_lab grade --expect wanted.expect submissions/*.asm
+  mta_lab grade --cases cases --thorough submissions/*.asm
   mta_lab grade --cases cases --explore --seconds 10 --format junit submissions/*.asm";
 
 pub(crate) const EXERCISE: &str = "\
@@ -245,6 +257,8 @@ pub(crate) const MEMORY: &str = "of every schedule, the most megabytes of the se
 
 pub(crate) const GRADE_MEMORY: &str =
     "of every schedule, the most megabytes of all searches at a time [2000]";
+
+pub(crate) const PART: &str = "judges part I of N of the submissions, in the order of their names";
 
 pub(crate) const PLAIN: &str = "explores all states, even if the ends need fewer";
 

@@ -1,8 +1,7 @@
 //! The commands over many runs or every schedule: their arguments, in the order of the help, and what they ask.
 
 use crate::arguments::{Argument, Form, Presence};
-use crate::choices::{FORMAT_WORDS, FORMATS, GOALS};
-use crate::help;
+use crate::choices::{FORMAT_WORDS, FORMATS, GOALS, UNDECIDED, UNDECIDED_WORDS};
 use crate::options::{
     MOST_JOBS, MOST_MEGABYTES, MOST_SECONDS, MOST_WORLDS, USUAL_MEGABYTES, USUAL_SEEDS,
     USUAL_STEPS, USUAL_WORLDS, chosen, count, number, shown_of, text, word, words,
@@ -10,11 +9,12 @@ use crate::options::{
 use crate::shared_arguments::{
     BEGINNING, EXPECT, HEX, JSON, PROGRAM, SECONDS, SEEDS, STATES, STEPS, TITLE,
 };
-use crate::values::{EXPECT_FILE, PAGE_FILE, PROGRAM_FILE, ValueKind};
+use crate::values::{EXPECT_FILE, PAGE_FILE, PROGRAM_FILE, RESULTS_FILE, ValueKind};
+use crate::{VERSION, help};
 use clap::ArgMatches;
 use lab_requests::{
-    Bounds, ExploreRequest, GradeCases, GradeFormat, GradeRequest, MOST_PLAYED, PlayRequest,
-    SurveyRequest,
+    Bounds, ExploreRequest, GradeCases, GradeFormat, GradeRequest, LabCommand, MOST_PLAYED,
+    MergeRequest, PlayRequest, SurveyRequest, Undecided,
 };
 use std::alloc::{AllocError, Global};
 
@@ -90,11 +90,15 @@ pub(crate) const EXPLORE_ARGUMENTS: [Argument; 12] = [
 ];
 
 /// Of `grade`.
-pub(crate) const GRADE_ARGUMENTS: [Argument; 17] = [
+pub(crate) const GRADE_ARGUMENTS: [Argument; 24] = [
     Argument(
         "expect",
         help::EXPECT,
-        Form::Option("FILE", EXPECT_FILE, Presence::NeededWithout("cases")),
+        Form::Option(
+            "FILE",
+            EXPECT_FILE,
+            Presence::NeededWithout(&["cases", "merge"]),
+        ),
     ),
     Argument(
         "cases",
@@ -107,12 +111,17 @@ pub(crate) const GRADE_ARGUMENTS: [Argument; 17] = [
     ),
     Argument(
         "given",
-        "the cells, as .data and .fill lines, in place of each submission's own",
+        "the cells, as .data and .fill lines, that replace words of each submission",
         Form::Option(
             "FILE",
             ValueKind::File(&[".data"]),
             Presence::Without(&["cases"]),
         ),
+    ),
+    Argument(
+        "require-names",
+        "a submission without the names of a case's words is a source fault",
+        Form::Flag(&[]),
     ),
     SEEDS,
     STEPS,
@@ -124,6 +133,11 @@ pub(crate) const GRADE_ARGUMENTS: [Argument; 17] = [
     Argument(
         "explore",
         "every schedule; if that decides nothing, random ones too",
+        Form::Flag(&[]),
+    ),
+    Argument(
+        "thorough",
+        "random schedules; if they are right, every schedule, with more and more memory",
         Form::Flag(&[]),
     ),
     STATES,
@@ -154,18 +168,60 @@ pub(crate) const GRADE_ARGUMENTS: [Argument; 17] = [
     ),
     Argument(
         "format",
-        "how it is written: text, tsv, json, junit or gradescope [text]",
+        "how it is written: text, tsv, json, junit, gradescope or moodle [text]",
         Form::Option(
             "FORMAT",
             ValueKind::OneOf(&FORMAT_WORDS),
             Presence::Without(&["json"]),
         ),
     ),
+    Argument(
+        "undecided",
+        "what a case that is not decided counts as, right or wrong [no score]",
+        Form::Option("WORD", ValueKind::OneOf(&UNDECIDED_WORDS), Presence::Free),
+    ),
+    Argument(
+        "feedback",
+        "writes a text for the student of each submission into this folder",
+        Form::Option("FOLDER", ValueKind::Folder, Presence::Free),
+    ),
     HEX,
     Argument("json", "the same as --format json", Form::Flag(&[])),
     Argument(
+        "results",
+        "keeps each result in this file, and takes those that it has already",
+        Form::Option("FILE", RESULTS_FILE, Presence::Free),
+    ),
+    Argument(
+        "part",
+        help::PART,
+        Form::Option("I/N", ValueKind::Text, Presence::Free),
+    ),
+    Argument(
+        "merge",
+        "judges nothing: the files are kept results, of which it makes one table",
+        Form::Flag(&[
+            "expect",
+            "cases",
+            "given",
+            "require-names",
+            "seeds",
+            "steps",
+            "all",
+            "explore",
+            "thorough",
+            "jobs",
+            "no-links",
+            "pages",
+            "feedback",
+            "hex",
+            "results",
+            "part",
+        ]),
+    ),
+    Argument(
         "SUBMISSION",
-        "the submissions: source texts or images",
+        "the submissions: source texts or images; with --merge files of results",
         Form::Several(PROGRAM_FILE),
     ),
 ];
@@ -238,23 +294,42 @@ pub(crate) fn explore_of<'a>(found: &ArgMatches<'a>) -> ExploreRequest<'a> {
     }
 }
 
-/// What `grade` is asked.
-pub(crate) fn grade_of<'a>(
+/// What `grade` asks for: to judge, or to make one table of results that were kept.
+pub(crate) fn grading_of<'a>(
     alloc: Global,
     found: &ArgMatches<'a>,
-) -> Result<GradeRequest<'a>, AllocError> {
+) -> Result<LabCommand<'a>, AllocError> {
+    if found.get_flag("merge") {
+        return Ok(LabCommand::Merge(MergeRequest {
+            results: words(alloc, found, "SUBMISSION")?,
+            format: format_of(found),
+            undecided: undecided_of(found),
+        }));
+    }
+    Ok(LabCommand::Grade(grade_of(alloc, found)?))
+}
+
+/// What `grade` is asked.
+fn grade_of<'a>(alloc: Global, found: &ArgMatches<'a>) -> Result<GradeRequest<'a>, AllocError> {
     Ok(GradeRequest {
         cases: cases_of(found),
         seeds: count(found, "seeds", USUAL_SEEDS),
         most: count(found, "steps", USUAL_STEPS),
         counts_all: found.get_flag("all"),
         explored: graded_of(found),
+        is_thorough: found.get_flag("thorough"),
+        needs_names: found.get_flag("require-names"),
         megabytes_in_all: found.get_one::<usize>("memory"),
         jobs: found.get_one::<usize>("jobs"),
         refuses_links: found.get_flag("no-links"),
         pages: text(found, "pages"),
         submissions: words(alloc, found, "SUBMISSION")?,
+        part: text(found, "part"),
+        results: text(found, "results"),
+        version: VERSION,
+        feedback: text(found, "feedback"),
         format: format_of(found),
+        undecided: undecided_of(found),
         hexadecimal: found.get_flag("hex"),
     })
 }
@@ -268,6 +343,11 @@ fn cases_of<'a>(found: &ArgMatches<'a>) -> GradeCases<'a> {
             given: text(found, "given"),
         },
     }
+}
+
+/// What a case counts as that is not decided.
+fn undecided_of(found: &ArgMatches) -> Undecided {
+    chosen(found, "undecided", &UNDECIDED_WORDS, &UNDECIDED).unwrap_or(Undecided::Unscored)
 }
 
 /// How the answer of `grade` is written.
@@ -287,11 +367,17 @@ fn explored_of(found: &ArgMatches) -> Option<Bounds> {
     }
 }
 
-/// The same of each submission. Those that are judged side by side share the megabytes that are given; where neither states
-/// nor megabytes are, each has its own.
+/// The same of each submission, also where seeds come before them. Those that are judged side by side share the megabytes
+/// that are given. Where neither states nor megabytes are given, and seeds do not come first, each has its own.
 fn graded_of(found: &ArgMatches) -> Option<Bounds> {
-    let mut bounds = explored_of(found)?;
-    let is_bounded = bounds.megabytes.is_some() || found.get_one::<usize>("states").is_some();
+    let is_thorough = found.get_flag("thorough");
+    if !found.get_flag("explore") && !is_thorough {
+        return None;
+    }
+    let mut bounds = bounds_of(found);
+    let is_bounded = is_thorough
+        || bounds.megabytes.is_some()
+        || found.get_one::<usize>("states").is_some();
     bounds.megabytes = if is_bounded {
         None
     } else {

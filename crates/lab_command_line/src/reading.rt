@@ -4,7 +4,7 @@ use crate::choices::{COLOUR_WORDS, COLOURS};
 use crate::commands::{CommandName, command_called};
 use crate::file_commands::{asm_of, check_of, exercise_of, explain_of, layout_of, new_of, word_of};
 use crate::foreign_words::refusal_of;
-use crate::many_runs_commands::{explore_of, grade_of, play_of, survey_of};
+use crate::many_runs_commands::{explore_of, grading_of, play_of, survey_of};
 use crate::options::chosen;
 use crate::parsers::lab_parser;
 use crate::run_commands::{
@@ -97,7 +97,7 @@ fn asked_of<'a>(
         CommandName::Compare => Ok(compare_of(found)),
         CommandName::Survey => Ok(LabCommand::Survey(survey_of(found))),
         CommandName::Explore => Ok(LabCommand::Explore(explore_of(found))),
-        CommandName::Grade => Ok(LabCommand::Grade(grade_of(alloc, found)?)),
+        CommandName::Grade => grading_of(alloc, found),
         CommandName::Exercise => Ok(LabCommand::Exercise(exercise_of(found))),
         CommandName::Page => Ok(LabCommand::Page(page_of(found))),
         CommandName::Picture => Ok(LabCommand::Picture(picture_of(found))),

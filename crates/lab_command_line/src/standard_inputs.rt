@@ -40,6 +40,7 @@ fn standard_inputs(command: &LabCommand) -> usize {
             count_of(&[Some(request.program), request.expected, request.from])
         }
         LabCommand::Grade(request) => of_grade(request),
+        LabCommand::Merge(request) => count_in(&request.results),
         LabCommand::Page(request) | LabCommand::Picture(request) => count_of(&[
             Some(request.program),
             file_of(request.run),

@@ -37,3 +37,6 @@ pub(crate) const EXPECT_FILE: ValueKind = ValueKind::File(&[".expect"]);
 
 /// A page for a browser.
 pub(crate) const PAGE_FILE: ValueKind = ValueKind::File(&[".html"]);
+
+/// Kept results of submissions.
+pub(crate) const RESULTS_FILE: ValueKind = ValueKind::File(&[".jsonl"]);

@@ -5,7 +5,7 @@ use command_parts::{Inputs, LabFault};
 use grade_reports::{GradeRow, reason_of};
 use judgements::VerdictKind;
 use lab_grades::{DecidedByCase, judged_alone};
-use lab_requests::{Bounds, GradeCases, GradeFormat, GradeRequest};
+use lab_requests::{Bounds, GradeCases, GradeFormat, GradeRequest, Undecided};
 use program_searches::Console;
 use std::alloc::Global;
 use std::io::{Read, Write};
@@ -83,12 +83,19 @@ pub(crate) fn judge<X: Threads + Sync + Clock, F: Files, R: Read, E: Write>(
             megabytes: None,
             megabytes_in_all: None,
         }),
+        is_thorough: false,
+        needs_names: false,
         megabytes_in_all: None,
         jobs: Some(1),
         refuses_links: false,
         pages: None,
         submissions: Vec::new(alloc),
+        part: None,
+        results: None,
+        version: "",
+        feedback: None,
         format: GradeFormat::Text,
+        undecided: Undecided::Unscored,
         hexadecimal: false,
     };
     let judged = judged_alone(rt, alloc, inputs, &request, &start, console)?;

@@ -2,9 +2,9 @@
 
 use crate::case_files::read_cases;
 use crate::grading::{named_cases, style_of};
-use crate::judging::{Grading, judgement_on};
+use crate::judging::{Grading, form_of, judgement_on};
 use crate::rows::row_of;
-use crate::submissions::{ReadSubmission, read_submission};
+use crate::submissions::{ReadSubmission, program_or_row, read_submission};
 use command_parts::{Inputs, LabFault, Program};
 use expectation_files::{FileFault, Requirements};
 use grade_reports::GradeRow;
@@ -52,10 +52,11 @@ pub fn judged_alone<X: Threads + Sync + Clock, F: Files, R: Read, E: Write>(
     let cases = read_cases(alloc, inputs, request.cases)?;
     let named = named_cases(&cases);
     let read = read_submission(alloc, inputs, path, request.refuses_links)?;
-    let ReadSubmission {
-        program,
-        link: _link,
-    } = read;
+    let ReadSubmission { bytes, link: _link } = read;
+    let program = match bytes {
+        Ok(bytes) => program_or_row(alloc, bytes)?,
+        Err(row) => Err(row),
+    };
     let program = match program {
         Ok(program) => program,
         Err(row) => {
@@ -68,9 +69,11 @@ pub fn judged_alone<X: Threads + Sync + Clock, F: Files, R: Read, E: Write>(
     };
     let grading = Grading {
         request,
+        submissions: &[],
         cases: &cases,
         style: style_of(request),
         jobs: 1,
+        form: form_of(request, &cases),
     };
     let judgement = judgement_on(rt, alloc, &grading, &program, console)?;
     let row = row_of(alloc, &grading, &program, &judgement)?;
@@ -91,7 +94,7 @@ fn decided_by(
     let Some(case) = cases.get(judgement.worst) else {
         return Ok(None);
     };
-    let given = image_by(alloc, &program.image, case)?;
+    let given = image_by(alloc, &program.image, &program.text, case)?;
     let Program { text, image } = program;
     let image = match given {
         Some(image) => image,

@@ -4,7 +4,7 @@ use crate::report_lines::{CaseLines, absent_line};
 use command_parts::made_by;
 use expectation_files::{LineFault, LineFaultKind, line_of, word_of};
 use expectation_messages::fault_words;
-use grade_reports::GradeRow;
+use grade_reports::ReportLine;
 use image_file::Image;
 use image_machines::by_room;
 use judgements::{Case, CaseJudgement, Reason, ShownRun};
@@ -15,6 +15,28 @@ use processor::Step;
 use source_places::SourcePlaces;
 use space_ends::SpaceEnd;
 use std::alloc::{AllocError, Global};
+
+/// What decides a judgement by a case, in words.
+#[derive(Drop)]
+pub(crate) struct CaseText {
+    /// The line that is not met, or by which the submission can't be judged.
+    pub missed: Option<ReportLine>,
+    /// Who was stopped, who waits and which words changed, or what the submission lacks.
+    pub words: String,
+    /// A finding of the run that shows it.
+    pub finding: String,
+}
+
+impl CaseText {
+    /// Nothing.
+    pub(crate) fn new(alloc: Global) -> CaseText {
+        CaseText {
+            missed: None,
+            words: String::new(alloc),
+            finding: String::new(alloc),
+        }
+    }
+}
 
 /// A program that a case makes of a submission, what the case requires of it, and how it is written.
 #[derive(Clone, Copy)]
@@ -30,43 +52,46 @@ pub(crate) struct CaseNotation<'a, 't> {
 }
 
 impl CaseNotation<'_, '_> {
-    /// Writes into a row what decides a judgement: the line that is not met, why, and the first finding.
+    /// Writes what decides a judgement: the line that is not met, why, and the first finding.
     pub(crate) fn add_reason(
         self,
         alloc: Global,
         judgement: &CaseJudgement,
-        row: &mut GradeRow,
+        text: &mut CaseText,
     ) -> Result<(), AllocError> {
-        row.missed = self.lines.line_of(alloc, judgement.missed())?;
+        text.missed = self.lines.line_of(alloc, judgement.missed())?;
         match &judgement.reason {
-            Reason::Looked | Reason::Absent { .. } => Ok(()),
-            Reason::Run(run) => self.add_run(alloc, run, row),
+            Reason::Looked
+            | Reason::Absent { .. }
+            | Reason::Lacking { .. }
+            | Reason::NotGiven { .. } => Ok(()),
+            Reason::Run(run) => self.add_run(alloc, run, text),
             Reason::End(place) => match judgement.ends.get(*place) {
-                Some(end) => self.add_end(alloc, end, row),
+                Some(end) => self.add_end(alloc, end, text),
                 None => Ok(()),
             },
-            Reason::NoSchedule { .. } => row.words.push_str("no schedule has such a state"),
-            Reason::NoRun { .. } => row.words.push_str("no run has such a state"),
-            Reason::NoRunCan => row.words.push_str("a run cannot show it; use --explore"),
-            Reason::Rule(_) => self.add_rule(row),
+            Reason::NoSchedule { .. } => text.words.push_str("no schedule has such a state"),
+            Reason::NoRun { .. } => text.words.push_str("no run has such a state"),
+            Reason::NoRunCan => text.words.push_str("a run cannot show it; use --explore"),
+            Reason::Rule(_) => self.add_rule(text),
         }
     }
 
     /// Writes what the run of a seed shows.
-    fn add_run(self, alloc: Global, run: &ShownRun, row: &mut GradeRow) -> Result<(), AllocError> {
+    fn add_run(self, alloc: Global, run: &ShownRun, text: &mut CaseText) -> Result<(), AllocError> {
         let maker = Maker::Random { seed: run.seed };
         let made = made_by(alloc, self.image, maker, self.most)?;
-        row.words = state_text(alloc, self.notation, self.image, &run.end.state)?;
-        row.finding = self.finding(alloc, &made.steps)?;
+        text.words = state_text(alloc, self.notation, self.image, &run.end.state)?;
+        text.finding = self.finding(alloc, &made.steps)?;
         Ok(())
     }
 
     /// Writes what an end of all schedules shows: nothing beside the line where its worlds break one.
-    fn add_end(self, alloc: Global, end: &SpaceEnd, row: &mut GradeRow) -> Result<(), AllocError> {
+    fn add_end(self, alloc: Global, end: &SpaceEnd, text: &mut CaseText) -> Result<(), AllocError> {
         if end.kind.is_end() {
-            row.words = text_of_end(alloc, self.notation, self.lines.required, self.image, end)?;
+            text.words = text_of_end(alloc, self.notation, self.lines.required, self.image, end)?;
         }
-        row.finding = self.finding(alloc, &end.schedule)?;
+        text.finding = self.finding(alloc, &end.schedule)?;
         Ok(())
     }
 
@@ -79,12 +104,12 @@ impl CaseNotation<'_, '_> {
     }
 
     /// Writes which rule of programs is broken.
-    fn add_rule(self, row: &mut GradeRow) -> Result<(), AllocError> {
+    fn add_rule(self, text: &mut CaseText) -> Result<(), AllocError> {
         let path = self.lines.case.path.as_str();
-        if let Some(rule) = &row.missed {
+        if let Some(rule) = &text.missed {
             let line = rule.number;
-            let text = rule.text.as_str();
-            write!(row.words, "{path}:{line}: not {text}")?;
+            let words = rule.text.as_str();
+            write!(text.words, "{path}:{line}: not {words}")?;
         }
         Ok(())
     }
@@ -111,26 +136,26 @@ pub(crate) struct AbsentLine<'a> {
     pub fault: LineFault,
 }
 
-/// Writes into a row that a program with this image and text lacks what a line names.
+/// Writes that a program with this image and text lacks what a line names.
 pub(crate) fn add_absent(
     alloc: Global,
     absent: AbsentLine<'_>,
     image: &Image,
-    text: &[u8],
-    row: &mut GradeRow,
+    source: &[u8],
+    text: &mut CaseText,
 ) -> Result<(), AllocError> {
     let AbsentLine { case, line, fault } = absent;
     let path = case.path.as_str();
     let word = word_of(line_of(&case.expected, line), fault.word);
-    let own = ProgramNames::of(alloc, text)?;
+    let own = ProgramNames::of(alloc, source)?;
     let given = ProgramNames::of(alloc, &case.given)?;
     let names = if names_words(&given) { &given } else { &own };
-    let reason = match missing_label(alloc, fault.kind, word, text)? {
+    let reason = match missing_label(alloc, fault.kind, word, source)? {
         Some(label) => format!(in alloc; "the program has no label {label}")?,
         None => fault_words(alloc, fault.kind, word, image, names)?,
     };
-    row.words = format!(in alloc; "{path}:{line}: {reason}")?;
-    row.missed = Some(absent_line(alloc, case, line)?);
+    text.words = format!(in alloc; "{path}:{line}: {reason}")?;
+    text.missed = Some(absent_line(alloc, case, line)?);
     Ok(())
 }
 

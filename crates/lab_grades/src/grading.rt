@@ -1,102 +1,201 @@
 //! The command `grade`.
 
 use crate::case_files::read_cases;
+use crate::class_flow::ClassFlow;
+use crate::class_stages::Desk;
 use crate::grade_notes::GradeNotes;
-use crate::judging::Grading;
-use crate::page_folder::PageFolder;
-use crate::side_by_side::{Graded, jobs_of, judge_all};
-use crate::submissions::read_submission;
-use command_parts::{CommandAnswer, Inputs, LabFault, Program, Status};
-use grade_reports::{GradeRow, report_of};
+use crate::judging::{Grading, form_of};
+use crate::kept_results::KeptResults;
+use crate::option_sums::{cases_sum, options_sum};
+use crate::page_folder::{PageFolder, reserve_all};
+use crate::progress::Progress;
+use crate::side_by_side::{jobs_of, judge_class};
+use class_results::{ClassPart, class_of};
+use command_parts::{CommandAnswer, Inputs, LabFault, Status};
+use grade_reports::{GradeRow, ReportForm, ReportedRow, report_of};
 use judgements::Case;
 use lab_requests::GradeRequest;
 use lab_texts::NumberStyle;
+use printed_lines::Printer;
 use program_searches::Console;
-use std::alloc::Global;
+use result_lines::ClassHead;
+use std::alloc::{AllocError, Global};
 use std::io::{Read, Write};
 use std::rt::Files;
+use std::sync::Wait;
 use std::thread::Threads;
 use std::time::Clock;
 
-/// How many submissions are read before they are judged.
-const MOST_READ: usize = 256;
-
-/// How many bytes their texts and images have then, beside the last one.
-const MOST_BYTES: usize = 16_777_216;
-
-/// What is said of submissions.
+/// The submissions of a call.
 #[derive(Drop)]
-struct Grades {
-    /// Their rows, in the order of the submissions.
-    rows: Vec<GradeRow>,
-    /// How many cases they were judged by; 0 if no case has a name.
-    cases: usize,
-    /// The lines of what is said beside the rows.
-    notes: String,
-    /// Why not all of their pages were written.
-    fault: Option<LabFault>,
+struct Submissions<'r> {
+    /// Those of the whole class.
+    class: Vec<&'r str>,
+    /// The part that is judged; None: all.
+    part: Option<ClassPart>,
+    /// The paths of those that are judged, in the order of their rows.
+    judged: Vec<&'r str>,
 }
 
-impl Grades {
-    /// The worst status over all of them.
-    fn status(&self) -> Status {
-        let mut status = Status::Done;
-        for row in self.rows.iter() {
-            status = status.worse(row.status);
-        }
-        status
-    }
-}
-
-/// Judges submissions, each by the same cases, and reports it as is asked for.
-pub fn grade<X: Threads + Sync + Clock, F: Files, R: Read, E: Write>(
+/// Judges submissions, each by the same cases, and reports it as is asked for: the rows of formats that have a line a
+/// submission are printed as they come.
+pub fn grade<X: Threads + Wait + Sync + Clock, F: Files, R: Read, W: Write, E: Write>(
     rt: &X,
     alloc: Global,
     inputs: &mut Inputs<'_, F, R>,
     request: &GradeRequest,
+    printer: &mut Printer<'_, W>,
     console: &mut Console<'_, X, E>,
 ) -> Result<CommandAnswer, LabFault> {
-    let grades = grades_of(rt, alloc, inputs, request, console)?;
-    let output = report_of(
-        alloc,
-        request.format,
-        &request.submissions,
-        &grades.rows,
-        grades.cases,
-    )?;
-    let status = grades.status();
+    let Submissions {
+        class,
+        part,
+        judged,
+    } = submissions_of(alloc, request)?;
+    let cases = read_cases(alloc, inputs, request.cases)?;
+    let mut pages = PageFolder::open(alloc, inputs, request, &class, part)?;
+    let grading = Grading {
+        request,
+        submissions: &judged,
+        cases: &cases,
+        style: style_of(request),
+        jobs: jobs_of(rt, request, judged.len()),
+        form: form_of(request, &cases),
+    };
+    let kept = match request.results {
+        Some(path) => {
+            reserve_all(alloc, inputs, &class)?;
+            let head = head_for(alloc, &grading, &class)?;
+            let notes = &mut pages.notes.lines;
+            Some(KeptResults::open(alloc, inputs, path, head, notes)?)
+        }
+        None => None,
+    };
+    let progress = Progress::begin(console);
+    let mut flow = ClassFlow::new(alloc, &grading, pages, kept, progress);
+    let mut desk = Desk {
+        inputs,
+        printer,
+        console,
+    };
+    judge_class(rt, alloc, &grading, &mut flow, &mut desk)?;
+    answer_of(alloc, &grading, flow)
+}
+
+/// What is left to be said when each submission has its row.
+fn answer_of<T: Drop>(
+    alloc: Global,
+    grading: &Grading<'_, '_>,
+    flow: ClassFlow<'_, '_, '_, T>,
+) -> Result<CommandAnswer, LabFault> {
+    let output = whole_report(alloc, grading.form, grading.submissions, &flow.rows)?;
+    let status = status_of(&flow.rows);
+    let PageFolder { notes, fault, .. } = flow.pages;
+    let GradeNotes { lines, .. } = notes;
     Ok(CommandAnswer {
         output,
-        errors: grades.notes,
+        errors: lines,
         status,
-        fault: grades.fault,
+        fault,
     })
 }
 
-/// What is said of submissions, each by the same cases: by the same seeds, or by every schedule.
-fn grades_of<X: Threads + Sync + Clock, F: Files, R: Read, E: Write>(
-    rt: &X,
+/// What is written after the rows of submissions.
+pub(crate) fn whole_report(
     alloc: Global,
-    inputs: &mut Inputs<'_, F, R>,
-    request: &GradeRequest,
-    console: &mut Console<'_, X, E>,
-) -> Result<Grades, LabFault> {
-    let cases = read_cases(alloc, inputs, request.cases)?;
-    let mut pages = PageFolder::open(alloc, inputs, request)?;
-    let grading = Grading {
-        request,
-        cases: &cases,
-        style: style_of(request),
-        jobs: jobs_of(rt, request),
+    form: ReportForm,
+    submissions: &[&str],
+    rows: &[GradeRow],
+) -> Result<String, AllocError> {
+    let mut reported = Vec::new(alloc);
+    for (path, row) in submissions.iter().zip(rows.iter()) {
+        reported.push(ReportedRow {
+            submission: *path,
+            row,
+            form,
+        })?;
+    }
+    report_of(alloc, form, &reported)
+}
+
+/// The worst status over all rows.
+pub(crate) fn status_of(rows: &[GradeRow]) -> Status {
+    let mut status = Status::Done;
+    for row in rows {
+        status = status.worse(row.status);
+    }
+    status
+}
+
+/// The submissions of a call: as they are named, and where a part of them is judged or results are kept, sorted and
+/// each once.
+fn submissions_of<'r>(
+    alloc: Global,
+    request: &GradeRequest<'r>,
+) -> Result<Submissions<'r>, LabFault> {
+    let part = match request.part {
+        Some(text) => Some(part_in(alloc, text)?),
+        None => None,
     };
-    let rows = rows_of(rt, alloc, inputs, &grading, &mut pages, console)?;
-    let PageFolder { notes, fault, .. } = pages;
-    let GradeNotes { lines, .. } = notes;
-    Ok(Grades {
-        rows,
-        cases: named_cases(&cases),
-        notes: lines,
-        fault,
+    let class = if part.is_some() || request.results.is_some() {
+        class_of(alloc, &request.submissions)?
+    } else {
+        Vec::from_slice(alloc, &request.submissions)?
+    };
+    let mut judged = Vec::new(alloc);
+    for (place, path) in class.iter().enumerate() {
+        if is_judged(part, place) {
+            judged.push(*path)?;
+        }
+    }
+    Ok(Submissions {
+        class,
+        part,
+        judged,
+    })
+}
+
+/// Whether the submission of a place of the class is judged.
+pub(crate) fn is_judged(part: Option<ClassPart>, place: usize) -> bool {
+    match part {
+        Some(part) => part.count > 0 && part.has(place),
+        None => true,
+    }
+}
+
+/// The part of these words.
+fn part_in(alloc: Global, text: &str) -> Result<ClassPart, LabFault> {
+    match ClassPart::of_text(text) {
+        Some(part) => Ok(part),
+        None => Err(LabFault::Words(format!(in alloc;
+            "--part {text}: a part is I/N, as 2/8, with I from 1 to N, and N at most 1000000"
+        )?)),
+    }
+}
+
+/// What a file of results says of this call.
+fn head_for(
+    alloc: Global,
+    grading: &Grading<'_, '_>,
+    class: &[&str],
+) -> Result<ClassHead, AllocError> {
+    let request = grading.request;
+    let mut paths = Vec::new(alloc);
+    for path in class {
+        paths.push(String::from_str(alloc, path)?)?;
+    }
+    let part = match request.part {
+        Some(part) => Some(String::from_str(alloc, part)?),
+        None => None,
+    };
+    Ok(ClassHead {
+        version: String::from_str(alloc, request.version)?,
+        part,
+        options: options_sum(alloc, request.version, grading)?,
+        cases: cases_sum(alloc, grading.cases)?,
+        named_cases: grading.form.named,
+        points: grading.form.points,
+        submissions: paths,
     })
 }
 
@@ -106,82 +205,6 @@ pub(crate) fn named_cases(cases: &[Case]) -> usize {
         .iter()
         .filter(|case: &&Case| case.name.is_some())
         .count()
-}
-
-/// What is said of each submission, in their order. Some are read, judged and let go before the next are read.
-fn rows_of<X: Threads + Sync + Clock, F: Files, R: Read, E: Write>(
-    rt: &X,
-    alloc: Global,
-    inputs: &mut Inputs<'_, F, R>,
-    grading: &Grading<'_, '_>,
-    pages: &mut PageFolder<'_>,
-    console: &mut Console<'_, X, E>,
-) -> Result<Vec<GradeRow>, LabFault> {
-    let mut rows = Vec::new(alloc);
-    for _ in 0..grading.request.submissions.len() {
-        let notes = &mut pages.notes;
-        let judged = judge_some(rt, alloc, inputs, grading, rows.len(), notes, console)?;
-        if judged.is_empty() {
-            return Ok(rows);
-        }
-        for graded in judged {
-            rows.push(pages.next_row(alloc, inputs, grading, graded, console)?)?;
-        }
-    }
-    Ok(rows)
-}
-
-/// Some of the submissions, from a place on, read and judged; none if there are no more.
-fn judge_some<X: Threads + Sync + Clock, F: Files, R: Read, E: Write>(
-    rt: &X,
-    alloc: Global,
-    inputs: &mut Inputs<'_, F, R>,
-    grading: &Grading<'_, '_>,
-    place: usize,
-    notes: &mut GradeNotes,
-    console: &mut Console<'_, X, E>,
-) -> Result<Vec<Graded>, LabFault> {
-    let read = read_some(alloc, inputs, grading.request, place, notes)?;
-    if read.is_empty() {
-        return Ok(Vec::new(alloc));
-    }
-    judge_all(rt, alloc, grading, read, console)
-}
-
-/// Some of the submissions, from a place on, as many as are read at once: the program of each, or what is said of it.
-fn read_some<F: Files, R: Read>(
-    alloc: Global,
-    inputs: &mut Inputs<'_, F, R>,
-    request: &GradeRequest,
-    place: usize,
-    notes: &mut GradeNotes,
-) -> Result<Vec<Result<Program, GradeRow>>, LabFault> {
-    let mut read = Vec::new(alloc);
-    let mut bytes: usize = 0;
-    for path in request.submissions.iter().skip(place).take(MOST_READ) {
-        let submission = read_submission(alloc, inputs, path, request.refuses_links)?;
-        if let Some(link) = &submission.link {
-            notes.note_link(place.saturating_add(read.len()), path, link)?;
-        }
-        if let Ok(program) = &submission.program {
-            bytes = bytes.saturating_add(size_of(program));
-        }
-        read.push(submission.program)?;
-        if bytes > MOST_BYTES {
-            return Ok(read);
-        }
-    }
-    Ok(read)
-}
-
-/// How many bytes a program's text and image have, about.
-fn size_of(program: &Program) -> usize {
-    let words = program
-        .image
-        .program()
-        .len()
-        .saturating_add(program.image.cells().len());
-    program.text.len().saturating_add(words.saturating_mul(16))
 }
 
 /// How the numbers of ends are told.

@@ -1,9 +1,10 @@
 //! How submissions are judged, and what is said of one.
 
-use crate::rows::row_of;
+use crate::grading::named_cases;
+use crate::rows::{points_of, row_of};
 use command_parts::{LabFault, Program};
 use expectation_messages::file_fault;
-use grade_reports::GradeRow;
+use grade_reports::{GradeRow, ReportForm};
 use judgements::{
     AskedJudging, Case, JudgeFault, Submission, SubmissionJudgement, image_by, judged_submission,
 };
@@ -21,19 +22,25 @@ use std::time::Clock;
 pub(crate) struct Grading<'a, 'r> {
     /// What is asked.
     pub request: &'a GradeRequest<'r>,
+    /// The paths of the submissions that are judged, in the order of their rows.
+    pub submissions: &'a [&'r str],
     /// The cases, one at least.
     pub cases: &'a [Case],
     /// How the numbers of ends are written.
     pub style: NumberStyle,
     /// How many submissions are judged side by side.
     pub jobs: usize,
+    /// How they are reported.
+    pub form: ReportForm,
 }
 
 impl Grading<'_, '_> {
     /// What is asked of each submission. The seeds of one are shared among the processors where submissions are not.
-    fn asked(&self) -> AskedJudging {
+    pub(crate) fn asked(&self) -> AskedJudging {
         AskedJudging {
             explored: self.bounds_of_each(),
+            is_thorough: self.request.is_thorough,
+            needs_names: self.request.needs_names,
             seeds: self.request.seeds,
             most: self.request.most,
             counts_all: self.request.counts_all,
@@ -49,6 +56,16 @@ impl Grading<'_, '_> {
         bounds.megabytes = Some(bounds.megabytes.unwrap_or(share).min(share));
         bounds.megabytes_in_all = Some(in_all);
         Some(bounds)
+    }
+}
+
+/// How submissions are reported that are judged by these cases.
+pub(crate) fn form_of(request: &GradeRequest<'_>, cases: &[Case]) -> ReportForm {
+    ReportForm {
+        format: request.format,
+        undecided: request.undecided,
+        named: named_cases(cases),
+        points: points_of(cases),
     }
 }
 
@@ -111,13 +128,13 @@ fn judge_fault(
     }
 }
 
-/// The program with a case's cells in place of its own; None where the case has none.
+/// The program with a case's cells; None where the case has none.
 pub(crate) fn given_by(
     alloc: Global,
     case: &Case,
     program: &Program,
 ) -> Result<Option<Program>, AllocError> {
-    match image_by(alloc, &program.image, case)? {
+    match image_by(alloc, &program.image, &program.text, case)? {
         Some(image) => Ok(Some(Program {
             text: Vec::from_slice(alloc, &program.text)?,
             image,

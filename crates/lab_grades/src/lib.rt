@@ -3,12 +3,20 @@
 
 mod alone;
 mod case_files;
+mod case_rows;
 mod case_words;
+mod class_flow;
+mod class_stages;
 mod grade_notes;
 mod grading;
 mod judging;
+mod kept_results;
+mod merged_class;
+mod name_words;
+mod option_sums;
 mod page_folder;
 mod page_names;
+mod progress;
 mod report_lines;
 mod row_ends;
 mod rows;
@@ -18,3 +26,4 @@ mod verdict_pages;
 
 pub use alone::{DecidedByCase, JudgedAlone, judged_alone};
 pub use grading::grade;
+pub use merged_class::merge;

@@ -1,26 +1,30 @@
-//! The folder into which the pages of submissions are written.
+//! The folders into which the pages of submissions, and the texts for their students, are written.
 
+use crate::class_stages::Graded;
 use crate::grade_notes::GradeNotes;
+use crate::grading::is_judged;
 use crate::judging::Grading;
 use crate::page_names::page_names;
-use crate::side_by_side::Graded;
 use crate::verdict_pages::page_of_row;
+use class_results::ClassPart;
 use command_parts::{Inputs, LabFault, slash_after};
-use grade_reports::GradeRow;
+use grade_reports::{GradeRow, StudentFile, feedback_of};
 use lab_requests::GradeRequest;
-use plain_text::stem_of;
+use plain_text::{file_name, stem_of};
 use program_searches::Console;
 use std::alloc::{AllocError, Global};
 use std::io::{Read, Write};
 use std::rt::Files;
 use std::time::Clock;
 
-/// The folder for pages, where one is asked for.
+/// The folder for pages, where one is asked for, and that for texts.
 #[derive(Drop)]
 pub(crate) struct PageFolder<'a> {
     /// Its path; None if no page is written.
     folder: Option<&'a str>,
-    /// What the page of each submission is called, in their order.
+    /// The path of the folder for the texts for students; None if none is written.
+    feedback: Option<&'a str>,
+    /// What the page and the text of each submission are called, in their order.
     names: Vec<String>,
     /// The place of the submission of the next row.
     next: usize,
@@ -31,31 +35,61 @@ pub(crate) struct PageFolder<'a> {
 }
 
 impl<'a> PageFolder<'a> {
-    /// The folder that is asked for, which is made where nothing has its name. No page is written over a submission.
+    /// The folders that are asked for, which are made where nothing has their names, for the pages and texts of a part of a
+    /// class. With texts alone the pages stand beside them. Nothing is written over a submission.
     pub(crate) fn open<F: Files, R: Read>(
         alloc: Global,
         inputs: &mut Inputs<'_, F, R>,
         request: &GradeRequest<'a>,
+        class: &[&str],
+        part: Option<ClassPart>,
     ) -> Result<PageFolder<'a>, LabFault> {
         let mut pages = PageFolder {
-            folder: request.pages,
+            folder: request.pages.or(request.feedback),
+            feedback: request.feedback,
             names: Vec::new(alloc),
             next: 0,
             notes: GradeNotes::new(alloc),
             fault: None,
         };
-        if let Some(folder) = request.pages {
-            pages.names = page_names(alloc, &request.submissions)?;
-            reserve_all(alloc, inputs, &request.submissions)?;
-            if let Err(fault) = inputs.make_folder(alloc, folder) {
-                pages.folder = None;
-                pages.fault = Some(fault);
+        if pages.folder.is_none() {
+            return Ok(pages);
+        }
+        for (place, name) in page_names(alloc, class)?.into_iter().enumerate() {
+            if is_judged(part, place) {
+                pages.names.push(name)?;
             }
         }
+        reserve_all(alloc, inputs, class)?;
+        let (folder, feedback) = (pages.folder, pages.feedback);
+        let made = pages.made(alloc, inputs, folder)?;
+        pages.folder = made;
+        let made = pages.made(alloc, inputs, feedback)?;
+        pages.feedback = made;
         Ok(pages)
     }
 
-    /// The row of the next submission, with its page, which is written.
+    /// A folder, which is made where nothing has its name; None where it can't be made.
+    fn made<F: Files, R: Read>(
+        &mut self,
+        alloc: Global,
+        inputs: &Inputs<'_, F, R>,
+        folder: Option<&'a str>,
+    ) -> Result<Option<&'a str>, LabFault> {
+        let Some(path) = folder else {
+            return Ok(None);
+        };
+        match inputs.make_folder(alloc, path) {
+            Ok(()) => Ok(folder),
+            Err(LabFault::NoMemory) => Err(LabFault::NoMemory),
+            Err(fault) => {
+                self.keep(fault);
+                Ok(None)
+            }
+        }
+    }
+
+    /// The row of the next submission, with its page, which is written, and so is the text for its student.
     pub(crate) fn next_row<F: Files, R: Read, C: Clock, E: Write>(
         &mut self,
         alloc: Global,
@@ -65,31 +99,52 @@ impl<'a> PageFolder<'a> {
         console: &mut Console<'_, C, E>,
     ) -> Result<GradeRow, LabFault> {
         let mut graded = graded;
-        self.add_page(alloc, inputs, grading, &mut graded, console)?;
+        let place = self.next;
+        self.next = place.saturating_add(1);
+        self.add_page(alloc, inputs, grading, place, &mut graded, console)?;
+        self.add_feedback(alloc, inputs, grading, place, &graded.row)?;
         Ok(graded.row)
     }
 
-    /// Writes the page of the next submission, if it has one, and takes its path into the row.
+    /// Writes the text for the student of the submission of a place, where texts are asked for.
+    fn add_feedback<F: Files, R: Read>(
+        &mut self,
+        alloc: Global,
+        inputs: &Inputs<'_, F, R>,
+        grading: &Grading<'_, '_>,
+        place: usize,
+        row: &GradeRow,
+    ) -> Result<(), LabFault> {
+        let Some(folder) = self.feedback else {
+            return Ok(());
+        };
+        let file = StudentFile {
+            path: called_at(grading, place),
+            page: row.page.as_ref().map(|page| file_name(page)),
+            points: grading.form.points,
+            undecided: grading.request.undecided,
+        };
+        let text = feedback_of(alloc, file, row, grading.cases)?;
+        let path = self.path_of(alloc, folder, place, "txt")?;
+        self.written(alloc, inputs, path, text)?;
+        Ok(())
+    }
+
+    /// Writes the page of the submission of a place, if it has one, and takes its path into the row.
     fn add_page<F: Files, R: Read, C: Clock, E: Write>(
         &mut self,
         alloc: Global,
         inputs: &Inputs<'_, F, R>,
         grading: &Grading<'_, '_>,
+        place: usize,
         graded: &mut Graded,
         console: &mut Console<'_, C, E>,
     ) -> Result<(), LabFault> {
-        let place = self.next;
-        self.next = place.saturating_add(1);
         let Some(folder) = self.folder else {
             return Ok(());
         };
-        let path = self.path_of(alloc, folder, place)?;
-        let called = grading
-            .request
-            .submissions
-            .get(place)
-            .copied()
-            .unwrap_or("");
+        let path = self.path_of(alloc, folder, place, "html")?;
+        let called = called_at(grading, place);
         let page = match &graded.program {
             Some(program) if self.notes.may_have_page(place) => page_of_row(
                 alloc,
@@ -111,14 +166,20 @@ impl<'a> PageFolder<'a> {
         Ok(())
     }
 
-    /// The path of the page of the submission of a place.
-    fn path_of(&self, alloc: Global, folder: &str, place: usize) -> Result<String, AllocError> {
+    /// The path of the file of this kind of the submission of a place.
+    fn path_of(
+        &self,
+        alloc: Global,
+        folder: &str,
+        place: usize,
+        kind: &str,
+    ) -> Result<String, AllocError> {
         let slash = slash_after(folder);
         let name = self.names.get(place).map_or("", |name| name.as_str());
-        format!(in alloc; "{folder}{slash}{name}.html")
+        format!(in alloc; "{folder}{slash}{name}.{kind}")
     }
 
-    /// Writes a page, and gives its path; None where it can't be written, which costs this page alone.
+    /// Writes a page or a text, and gives its path; None where it can't be written, which costs this file alone.
     fn written<F: Files, R: Read>(
         &mut self,
         alloc: Global,
@@ -144,8 +205,13 @@ impl<'a> PageFolder<'a> {
     }
 }
 
+/// The path of the submission of a place.
+fn called_at<'r>(grading: &Grading<'_, 'r>, place: usize) -> &'r str {
+    grading.submissions.get(place).copied().unwrap_or("")
+}
+
 /// Notes that nothing is written over what these paths lead to.
-fn reserve_all<F: Files, R: Read>(
+pub(crate) fn reserve_all<F: Files, R: Read>(
     alloc: Global,
     inputs: &mut Inputs<'_, F, R>,
     paths: &[&str],

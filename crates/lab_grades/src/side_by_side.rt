@@ -1,29 +1,36 @@
 //! Submissions judged side by side.
 
+use crate::class_flow::ClassFlow;
+use crate::class_stages::{Desk, Job, Next, Outcome};
 use crate::judging::{Grading, row_on};
-use command_parts::{LabFault, Program};
-use grade_reports::GradeRow;
+use command_parts::LabFault;
+use crossbeam_channel::{Receiver, Sender, unbounded};
 use lab_requests::GradeRequest;
 use program_searches::{Console, USUAL_MEGABYTES};
 use rayon::current_num_threads;
-use rayon::prelude::*;
-use std::alloc::{AllocError, Global};
+use std::alloc::Global;
 use std::fs::File;
-use std::io::{Write, sink};
+use std::io::{Read, Write, sink};
+use std::rt::Files;
+use std::sync::Wait;
+use std::thread;
 use std::thread::Threads;
-use std::time::Clock;
+use std::time::{Clock, Duration};
 
 /// The megabytes that the search of a submission has at least, where it is not said how many are judged side by side.
 const LEAST_MEGABYTES: usize = 200;
 
-/// How many submissions are judged side by side: as many as are asked for, else as there are processors, and no more
-/// than there are.
-pub(crate) fn jobs_of<X: Threads>(rt: &X, request: &GradeRequest) -> usize {
+/// How many milliseconds pass at most before progress is shown again.
+const SHOWN_EACH: u64 = 1_000;
+
+/// How many of so many submissions are judged side by side: as many as are asked for, else as there are processors, and
+/// no more than there are.
+pub(crate) fn jobs_of<X: Threads>(rt: &X, request: &GradeRequest, submissions: usize) -> usize {
     let jobs = match request.jobs {
         Some(jobs) => jobs,
         None => current_num_threads(rt).min(most_searches(request)),
     };
-    jobs.min(request.submissions.len())
+    jobs.min(submissions)
 }
 
 /// How many searches have their megabytes side by side, one at least.
@@ -35,79 +42,93 @@ fn most_searches(request: &GradeRequest) -> usize {
     (in_all / LEAST_MEGABYTES).max(1)
 }
 
-/// A submission that is judged.
-#[derive(Drop)]
-pub(crate) struct Graded {
-    /// Its program; None if it is none.
-    pub program: Option<Program>,
-    /// What is said of it.
-    pub row: GradeRow,
-}
+/// Where submissions that are to be judged wait.
+type Jobs = Receiver<Job, Global>;
 
-/// What is said of some submissions, in their order. The answer is that of one thread.
-pub(crate) fn judge_all<X: Threads + Sync + Clock, E: Write>(
+/// Where those that were judged go.
+type Outcomes = Sender<Outcome, Global>;
+
+/// Judges all submissions of a class, and writes their rows in their order, each as soon as it and those before it are
+/// known. Each job takes the next submission when it is free.
+pub(crate) fn judge_class<X: Threads + Wait + Sync + Clock, F: Files, R: Read, W: Write, E: Write>(
     rt: &X,
     alloc: Global,
     grading: &Grading<'_, '_>,
-    submissions: Vec<Result<Program, GradeRow>>,
-    console: &mut Console<'_, X, E>,
-) -> Result<Vec<Graded>, LabFault> {
-    let judged = if grading.jobs <= 1 {
-        judge_each(rt, alloc, grading, &submissions, console)?
+    flow: &mut ClassFlow<'_, '_, '_, F::File>,
+    desk: &mut Desk<'_, '_, '_, '_, '_, '_, F, R, W, X, E>,
+) -> Result<(), LabFault> {
+    let judged = if grading.jobs > 1 {
+        judge_side_by_side(rt, alloc, grading, flow, desk)
     } else {
-        judge_side_by_side(rt, alloc, grading, &submissions)?
+        judge_in_turn(rt, alloc, grading, flow, desk)
     };
-    in_order(alloc, submissions, judged)
+    flow.wipe(desk);
+    judged
 }
 
-/// What came of one job: of each of its submissions that are programs the row, or why the command gives up.
-type JobRows = Vec<Result<GradeRow, LabFault>>;
-
-/// What is said of those that are programs, one after the other.
-fn judge_each<X: Threads + Sync + Clock, E: Write>(
+/// Judges them one after the other.
+fn judge_in_turn<X: Threads + Wait + Sync + Clock, F: Files, R: Read, W: Write, E: Write>(
     rt: &X,
     alloc: Global,
     grading: &Grading<'_, '_>,
-    submissions: &[Result<Program, GradeRow>],
-    console: &mut Console<'_, X, E>,
-) -> Result<JobRows, AllocError> {
-    let mut judged = Vec::new(alloc);
-    for submission in submissions {
-        if let Ok(program) = submission {
-            judged.push(row_on(rt, alloc, grading, program, console))?;
+    flow: &mut ClassFlow<'_, '_, '_, F::File>,
+    desk: &mut Desk<'_, '_, '_, '_, '_, '_, F, R, W, X, E>,
+) -> Result<(), LabFault> {
+    for _ in 0..grading.submissions.len() {
+        if flow.may_read() {
+            if let Next::Judge(job) = flow.read_next(alloc, desk)? {
+                flow.show(desk);
+                let Job { place, program } = job;
+                let row = row_on(rt, alloc, grading, &program, desk.console);
+                let outcome = Outcome {
+                    place,
+                    program,
+                    row,
+                };
+                flow.take(alloc, desk, outcome)?;
+            }
         }
+        flow.write_ready(alloc, desk)?;
     }
-    Ok(judged)
+    Ok(())
 }
 
-/// The same, so many side by side: each job takes every so many-th of them.
-fn judge_side_by_side<X: Threads + Sync + Clock>(
+/// Judges them on threads, as many as there are jobs, and where the system has none one after the other.
+fn judge_side_by_side<X: Threads + Wait + Sync + Clock, F: Files, R: Read, W: Write, E: Write>(
     rt: &X,
     alloc: Global,
     grading: &Grading<'_, '_>,
-    submissions: &[Result<Program, GradeRow>],
-) -> Result<JobRows, AllocError> {
-    let parts = (0..grading.jobs)
-        .into_par_iter()
-        .map(|job: usize| -> Result<JobRows, AllocError> {
-            judge_part(rt, alloc, grading, job, submissions)
-        })
-        .with_min_len(1)
-        .collect::<Result<Vec<JobRows>, AllocError>>(rt, alloc);
-    match parts {
-        Ok(Ok(parts)) => interleaved(alloc, parts, submissions.len()),
-        Ok(Err(_)) | Err(_) => Err(AllocError),
-    }
+    flow: &mut ClassFlow<'_, '_, '_, F::File>,
+    desk: &mut Desk<'_, '_, '_, '_, '_, '_, F, R, W, X, E>,
+) -> Result<(), LabFault> {
+    let (sender, jobs) = unbounded(alloc)?;
+    let (outcomes, receiver) = unbounded(alloc)?;
+    thread::scope(thread::scope_env(), rt, |scope| {
+        let mut started: usize = 0;
+        for _ in 0..grading.jobs {
+            let (jobs, outcomes) = (jobs.clone()?, outcomes.clone()?);
+            if scope
+                .spawn(move || work(rt, alloc, grading, jobs, outcomes))
+                .is_ok()
+            {
+                started = started.saturating_add(1);
+            }
+        }
+        if started == 0 {
+            return judge_in_turn(rt, alloc, grading, flow, desk);
+        }
+        share_out(rt, alloc, flow, desk, sender, receiver)
+    })
 }
 
-/// What a job says of its programs.
-fn judge_part<X: Threads + Sync + Clock>(
+/// What a job does: it judges one of the submissions that wait, and then the next, until there are no more.
+fn work<X: Threads + Wait + Sync + Clock>(
     rt: &X,
     alloc: Global,
     grading: &Grading<'_, '_>,
-    job: usize,
-    submissions: &[Result<Program, GradeRow>],
-) -> Result<JobRows, AllocError> {
+    jobs: Jobs,
+    outcomes: Outcomes,
+) {
     let mut nowhere = sink();
     let mut console = Console {
         clock: rt,
@@ -115,17 +136,18 @@ fn judge_part<X: Threads + Sync + Clock>(
         is_terminal: false,
         memory: unread_memory(rt),
     };
-    let mut judged = Vec::new(alloc);
-    let mut place: usize = 0;
-    for submission in submissions {
-        if let Ok(program) = submission {
-            if place % grading.jobs.max(1) == job {
-                judged.push(row_on(rt, alloc, grading, program, &mut console))?;
-            }
-            place = place.saturating_add(1);
+    for job in jobs.iter(rt) {
+        let Job { place, program } = job;
+        let row = row_on(rt, alloc, grading, &program, &mut console);
+        let outcome = Outcome {
+            place,
+            program,
+            row,
+        };
+        if outcomes.send(rt, outcome).is_err() {
+            return;
         }
     }
-    Ok(judged)
 }
 
 /// That the system is not asked how much memory the process takes.
@@ -133,55 +155,55 @@ fn unread_memory<X>(_rt: &X) -> Option<&File> {
     None
 }
 
-/// What the jobs said, in the order of the submissions, which are no more than `most`.
-fn interleaved(alloc: Global, parts: Vec<JobRows>, most: usize) -> Result<JobRows, AllocError> {
-    let mut parts = parts;
-    for part in parts.iter_mut() {
-        part.reverse();
-    }
-    let mut judged = Vec::new(alloc);
-    let jobs = parts.len().max(1);
-    for place in 0..most {
-        if let Some(part) = parts.get_mut(place % jobs)
-            && let Some(row) = part.pop()
-        {
-            judged.push(row)?;
-        }
-    }
-    Ok(judged)
-}
-
-/// All submissions with their rows, in their order: those on programs, and what was said of the others already.
-fn in_order(
+/// Reads submissions, hands them to the jobs, and writes the rows that come back.
+fn share_out<X: Threads + Wait + Sync + Clock, F: Files, R: Read, W: Write, E: Write>(
+    rt: &X,
     alloc: Global,
-    submissions: Vec<Result<Program, GradeRow>>,
-    judged: JobRows,
-) -> Result<Vec<Graded>, LabFault> {
-    let mut judged = judged;
-    judged.reverse();
-    let mut all = Vec::new(alloc);
-    for submission in submissions {
-        if let Some(graded) = graded_as(submission, &mut judged)? {
-            all.push(graded)?;
+    flow: &mut ClassFlow<'_, '_, '_, F::File>,
+    desk: &mut Desk<'_, '_, '_, '_, '_, '_, F, R, W, X, E>,
+    sender: Sender<Job, Global>,
+    receiver: Receiver<Outcome, Global>,
+) -> Result<(), LabFault> {
+    for _ in rt.forever() {
+        flow.write_ready(alloc, desk)?;
+        if flow.is_done() {
+            return Ok(());
         }
+        let came = if flow.may_read() {
+            if let Next::Judge(job) = flow.read_next(alloc, desk)? {
+                hand_on(rt, &sender, job)?;
+            }
+            receiver.try_recv(rt).ok()
+        } else {
+            next_outcome(rt, flow, &receiver)
+        };
+        if let Some(outcome) = came {
+            flow.take(alloc, desk, outcome)?;
+        }
+        flow.show(desk);
     }
-    Ok(all)
+    unreachable!()
 }
 
-/// A submission with its row: of a program the last of these, which is taken out of them; None if there is none left.
-fn graded_as(
-    submission: Result<Program, GradeRow>,
-    judged: &mut JobRows,
-) -> Result<Option<Graded>, LabFault> {
-    match submission {
-        Err(row) => Ok(Some(Graded { program: None, row })),
-        Ok(program) => match judged.pop() {
-            Some(Ok(row)) => Ok(Some(Graded {
-                program: Some(program),
-                row,
-            })),
-            Some(Err(fault)) => Err(fault),
-            None => Ok(None),
-        },
+/// Hands a submission to the jobs.
+fn hand_on<X: Wait>(rt: &X, sender: &Sender<Job, Global>, job: Job) -> Result<(), LabFault> {
+    match sender.send(rt, job) {
+        Ok(()) => Ok(()),
+        Err(_) => Err(LabFault::NoMemory),
+    }
+}
+
+/// Waits for a submission that was judged, for as long as progress may wait where it is shown.
+fn next_outcome<X: Wait + Clock, T>(
+    rt: &X,
+    flow: &ClassFlow<'_, '_, '_, T>,
+    receiver: &Receiver<Outcome, Global>,
+) -> Option<Outcome> {
+    if flow.is_shown() {
+        receiver
+            .recv_timeout(rt, Duration::from_millis(SHOWN_EACH))
+            .ok()
+    } else {
+        receiver.recv(rt).ok()
     }
 }

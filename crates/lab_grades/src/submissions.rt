@@ -11,8 +11,8 @@ use std::rt::Files;
 /// A submission that was read.
 #[derive(Drop)]
 pub(crate) struct ReadSubmission {
-    /// Its program, or what is said of one that can't be read or is no program.
-    pub program: Result<Program, GradeRow>,
+    /// Its bytes, or what is said of one that can't be read.
+    pub bytes: Result<Vec<u8>, GradeRow>,
     /// The link that led to it, if that leads out of its folder.
     pub link: Option<LinkOut>,
 }
@@ -24,14 +24,14 @@ pub(crate) fn read_submission<F: Files, R: Read>(
     inputs: &mut Inputs<'_, F, R>,
     path: &str,
     refuses_links: bool,
-) -> Result<ReadSubmission, LabFault> {
+) -> Result<ReadSubmission, AllocError> {
     match read_file(alloc, inputs, path, refuses_links)? {
         Ok(RegularFile { bytes, link }) => Ok(ReadSubmission {
-            program: program_or_row(alloc, bytes)?,
+            bytes: Ok(bytes),
             link,
         }),
         Err(why) => Ok(ReadSubmission {
-            program: Err(GradeRow::of_no_program(alloc, VerdictKind::NotRead, why)),
+            bytes: Err(GradeRow::of_no_program(alloc, VerdictKind::NotRead, why)),
             link: None,
         }),
     }
@@ -54,7 +54,10 @@ fn read_file<F: Files, R: Read>(
 }
 
 /// The program of a submission's bytes, or what is said of bytes that are none.
-fn program_or_row(alloc: Global, bytes: Vec<u8>) -> Result<Result<Program, GradeRow>, LabFault> {
+pub(crate) fn program_or_row(
+    alloc: Global,
+    bytes: Vec<u8>,
+) -> Result<Result<Program, GradeRow>, LabFault> {
     match program_in(alloc, bytes) {
         Ok(program) => Ok(Ok(program)),
         Err(ProgramFault::NoMemory) => Err(LabFault::NoMemory),

@@ -2,7 +2,7 @@
 
 use crate::judging::{Grading, given_by};
 use command_parts::{LabFault, Program, made_by};
-use grade_reports::GradeRow;
+use grade_reports::{CaseRow, GradeRow, case_for_student};
 use judgements::{Case, Witness, required_by};
 use lab_requests::Maker;
 use lab_texts::ProgramNames;
@@ -17,8 +17,8 @@ use std::time::Clock;
 /// What the page of a run by a schedule of a search calls it.
 const THAT_DECIDES: &str = "the schedule that decides";
 
-/// The page of the run that shows a verdict on a program that is called so; None if no run does, or if it has more steps than
-/// a page. Of a schedule it is the page of all schedules, which opens at its end, if they have no more states than a page.
+/// The page of the run that shows a verdict on a program that is called so, by the first of the most severe cases that are not
+/// hidden; None if no run does, or if it has more steps than a page. Of a schedule it is the page of all schedules, which opens at its end, if they have no more states than a page.
 pub(crate) fn page_of_row<C: Clock, E: Write>(
     alloc: Global,
     grading: &Grading<'_, '_>,
@@ -27,12 +27,15 @@ pub(crate) fn page_of_row<C: Clock, E: Write>(
     row: &GradeRow,
     console: &mut Console<'_, C, E>,
 ) -> Result<Option<String>, LabFault> {
+    let Some(place) = case_for_student(&row.cases) else {
+        return Ok(None);
+    };
+    let (Some(row), Some(case)) = (row.cases.get(place), grading.cases.get(place)) else {
+        return Ok(None);
+    };
     if matches!(&row.witness, Witness::None) {
         return Ok(None);
     }
-    let Some(case) = case_of(grading, row) else {
-        return Ok(None);
-    };
     let given = given_by(alloc, case, program)?;
     let program = given.as_ref().unwrap_or(program);
     let shown = ShownProgram {
@@ -41,11 +44,6 @@ pub(crate) fn page_of_row<C: Clock, E: Write>(
         case,
     };
     page_by_case(alloc, grading, shown, row, console)
-}
-
-/// The case that decides a verdict.
-fn case_of<'a>(grading: &Grading<'a, '_>, row: &GradeRow) -> Option<&'a Case> {
-    grading.cases.iter().find(|case| case.name == row.case)
 }
 
 /// A program that has a case's cells already.
@@ -64,7 +62,7 @@ fn page_by_case<C: Clock, E: Write>(
     alloc: Global,
     grading: &Grading<'_, '_>,
     shown: ShownProgram<'_>,
-    row: &GradeRow,
+    row: &CaseRow,
     console: &mut Console<'_, C, E>,
 ) -> Result<Option<String>, LabFault> {
     match &row.witness {
@@ -82,7 +80,7 @@ fn page_of_seed(
     alloc: Global,
     most: usize,
     shown: ShownProgram<'_>,
-    row: &GradeRow,
+    row: &CaseRow,
     seed: u64,
 ) -> Result<Option<String>, AllocError> {
     let maker = Maker::Random { seed };
@@ -95,7 +93,7 @@ fn page_of_seed(
 fn page_of_steps(
     alloc: Global,
     shown: ShownProgram<'_>,
-    row: &GradeRow,
+    row: &CaseRow,
     schedule: &str,
     steps: &[Step],
 ) -> Result<Option<String>, AllocError> {
@@ -107,7 +105,7 @@ fn page_of_steps(
 }
 
 /// How a page says that the run is not right: by the line that it misses, where one says it.
-fn page_verdict_of(row: &GradeRow) -> RunVerdict<'_> {
+fn page_verdict_of(row: &CaseRow) -> RunVerdict<'_> {
     RunVerdict::NotExpected {
         missed: row.missed.as_ref().map(|line| line.text.as_str()),
     }

@@ -1,6 +1,7 @@
 //! The commands `page`, `picture` and `play`: runs, and all schedules, for a browser.
 #![tactic(auto)]
 
+mod answers;
 mod paging;
 mod picturing;
 mod playing;

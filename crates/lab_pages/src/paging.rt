@@ -1,5 +1,6 @@
 //! The command `page`.
 
+use crate::answers::page_answer;
 use command_parts::{CommandAnswer, Inputs, LabFault, Program, read_program, steps_of};
 use lab_requests::{Maker, PageRequest, RunChoice};
 use plain_text::{file_name, stem_of};
@@ -22,7 +23,7 @@ pub fn write_page<F: Files, R: Read>(
         None => page_text(alloc, inputs, request)?,
     };
     inputs.write(alloc, request.out, page.as_bytes())?;
-    Ok(CommandAnswer::silent(alloc))
+    page_answer(alloc, request.out)
 }
 
 /// The page of a run.

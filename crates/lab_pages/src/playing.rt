@@ -1,5 +1,6 @@
 //! The command `play`.
 
+use crate::answers::page_answer;
 use command_parts::{CommandAnswer, Inputs, LabFault, Program, read_program, read_steps};
 use end_goals::EndGoal;
 use expectation_files::Requirements;
@@ -43,7 +44,7 @@ pub fn write_play_page<C: Clock, F: Files, R: Read, E: Write>(
         PlayPage::TooManyStates => return Err(too_many(alloc, request)?),
         PlayPage::NoSuchEnd => return Err(no_such_end(alloc, request)?),
     }
-    Ok(CommandAnswer::silent(alloc))
+    page_answer(alloc, request.out)
 }
 
 /// What is required of the program; nothing where no file says it.

@@ -5,6 +5,7 @@ mod requests;
 
 pub use requests::{
     Bounds, CheckRequest, Colours, ExerciseRequest, ExploreRequest, FileKind, GradeCases,
-    GradeFormat, GradeRequest, LabCall, LabCommand, LayoutRequest, MOST_PLAYED, Maker, PageRequest,
-    PlayRequest, RunChoice, Shown, SurveyRequest, ViewRequest,
+    GradeFormat, GradeRequest, LabCall, LabCommand, LayoutRequest, MOST_PLAYED, Maker,
+    MergeRequest, PageRequest, PlayRequest, RunChoice, Shown, SurveyRequest, Undecided,
+    ViewRequest,
 };

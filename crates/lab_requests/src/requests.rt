@@ -189,6 +189,19 @@ pub enum GradeFormat {
     Junit,
     /// The JSON of Gradescope's results.
     Gradescope,
+    /// Moodle's grading table, as CSV.
+    Moodle,
+}
+
+/// How a case counts that is not decided.
+#[derive(Clone, Copy, Debug, PartialEq, Eq)]
+pub enum Undecided {
+    /// As one without a score.
+    Unscored,
+    /// As if it were right.
+    Right,
+    /// As if it were wrong.
+    Wrong,
 }
 
 /// What submissions are judged by.
@@ -218,6 +231,10 @@ pub struct GradeRequest<'a> {
     pub counts_all: bool,
     /// All schedules before seeds, and how far they are looked for, of each submission and case.
     pub explored: Option<Bounds>,
+    /// Whether seeds come before them, and each search is made again with more megabytes while these end it.
+    pub is_thorough: bool,
+    /// Whether a submission that lacks a name of a case's words is refused.
+    pub needs_names: bool,
     /// The most megabytes that the searches of submissions which are judged side by side take together.
     pub megabytes_in_all: Option<usize>,
     /// How many submissions are judged side by side, at least 1; None: as many as there are processors.
@@ -228,10 +245,31 @@ pub struct GradeRequest<'a> {
     pub pages: Option<&'a str>,
     /// The submissions, one at least: source texts or images.
     pub submissions: Vec<&'a str>,
+    /// Which part of them is judged, as `I/N`; None: all.
+    pub part: Option<&'a str>,
+    /// The file in which the results are kept, and from which those that are there are taken.
+    pub results: Option<&'a str>,
+    /// The version of the program, which kept results depend on.
+    pub version: &'a str,
+    /// The folder for a text for each student.
+    pub feedback: Option<&'a str>,
     /// How the answer is written.
     pub format: GradeFormat,
+    /// How a case counts that is not decided.
+    pub undecided: Undecided,
     /// Numbers of words are hexadecimal.
     pub hexadecimal: bool,
+}
+
+/// What `grade --merge` is asked.
+#[derive(Drop)]
+pub struct MergeRequest<'a> {
+    /// The files of results, one at least.
+    pub results: Vec<&'a str>,
+    /// How the answer is written.
+    pub format: GradeFormat,
+    /// How a case counts that is not decided.
+    pub undecided: Undecided,
 }
 
 /// What `exercise` is asked.
@@ -307,6 +345,8 @@ pub enum LabCommand<'a> {
     Explore(ExploreRequest<'a>),
     /// Judges submissions.
     Grade(GradeRequest<'a>),
+    /// Makes one table of results that were kept.
+    Merge(MergeRequest<'a>),
     /// Lists exercises, judges the program of one, or shows a hint of it.
     Exercise(ExerciseRequest<'a>),
     /// Writes a page that shows a run, or two.

@@ -82,7 +82,7 @@ const ROWS: [Row; 28] = [
 
 /// A text that has a fault, its line, and what it is.
 /// A text, the line of its fault, the word there, from 0, and what is wrong with it. The program is `QUITTING`.
-const FAULTS: [(&str, usize, usize, LineFaultKind); 57] = [
+const FAULTS: [(&str, usize, usize, LineFaultKind); 66] = [
     (
         "finished\nword 8",
         2,
@@ -103,6 +103,20 @@ const FAULTS: [(&str, usize, usize, LineFaultKind); 57] = [
         3,
         LineFaultKind::Form(LineForm::Word),
     ),
+    ("points 1001", 1, 1, LineFaultKind::Worth),
+    ("points -1", 1, 1, LineFaultKind::Worth),
+    ("points 0x10", 1, 1, LineFaultKind::Worth),
+    ("points", 1, 0, LineFaultKind::Form(LineForm::Points)),
+    ("points 1 2", 1, 0, LineFaultKind::Form(LineForm::Points)),
+    ("hidden 1", 1, 0, LineFaultKind::Form(LineForm::Hidden)),
+    (
+        "points 3\nhidden\nfinished\npoints 3",
+        4,
+        0,
+        LineFaultKind::Again,
+    ),
+    ("points 3\npoints 1001", 2, 1, LineFaultKind::Worth),
+    ("points 3\npoint 3\npoints 3", 2, 0, LineFaultKind::Unknown),
     ("word 4 x", 1, 1, LineFaultKind::Address),
     ("word 2097152 0", 1, 1, LineFaultKind::Address),
     ("word -8 0", 1, 1, LineFaultKind::Address),

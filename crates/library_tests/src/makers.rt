@@ -97,6 +97,8 @@ const IN_TURNS_OF_8: [u8; 20] = [3, 3, 0, 0, 0, 0, 0, 0, 1, 1, 1, 1, 1, 1, 2, 2,
 
 const IN_TURNS_OF_32: [u8; 20] = [3, 3, 3, 3, 1, 1, 1, 1, 1, 1, 2, 2, 2, 2, 0, 0, 0, 0, 0, 0];
 
+const ONE_LEFT_OUT: [u8; 20] = [2, 2, 0, 0, 0, 2, 2, 0, 0, 0, 1, 1, 1, 1, 1, 1, 3, 3, 3, 3];
+
 const BY_PRIORITIES: [u8; 20] = [0, 0, 3, 3, 3, 2, 2, 2, 2, 0, 0, 0, 1, 1, 1, 1, 1, 1, 0, 3];
 /// Rounds take each stream, and the fair rule each processor.
 const EACH_STREAM: [u8; 13] = [0, 1, 0, 1, 0, 1, 0, 10, 1, 0, 10, 1, 0];
@@ -116,13 +118,14 @@ const STOPPING: [u8; 4] = [0, 1, 0, 1];
 /// A source, the rule, how many steps there may be, which there are, and why no more.
 type Row = (&'static str, Rule, usize, Steps, MadeEnd);
 
-const ROWS: [Row; 17] = [
+const ROWS: [Row; 18] = [
     (LOCK, Rounds, 100, &IN_TURN, MadeEnd::NobodyRuns),
     (LOCK, Fair, 100, &IN_TURN, MadeEnd::NobodyRuns),
     (LOCK, Random(0), 100, &OF_SEED_0, MadeEnd::NobodyRuns),
     (LOCK, Random(3), 100, &OF_SEED_3, MadeEnd::NobodyRuns),
     (LOCK, OfSeed(1), 100, &IN_TURNS_OF_8, MadeEnd::NobodyRuns),
     (LOCK, OfSeed(2), 100, &IN_TURNS_OF_32, MadeEnd::NobodyRuns),
+    (LOCK, OfSeed(4), 100, &ONE_LEFT_OUT, MadeEnd::NobodyRuns),
     (LOCK, OfSeed(7), 100, &BY_PRIORITIES, MadeEnd::NobodyRuns),
     (STARTING, Rounds, 13, &EACH_STREAM, MadeEnd::OutOfSteps),
     (STARTING, Fair, 13, &EACH_PROCESSOR, MadeEnd::OutOfSteps),

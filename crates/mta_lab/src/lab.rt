@@ -1,20 +1,20 @@
 //! The program, from its command line to its status.
 
 use crate::painting::Painting;
-use coloured_lines::coloured;
-use command_parts::{CommandAnswer, Inputs, LabFault, Status, write_out, written};
+use command_parts::{CommandAnswer, Inputs, LabFault, Status, written};
 use lab_adapter::adapt;
 use lab_checks::{assemble_file, check, explain, lay_out, make_schedule, show_word, start_program};
 use lab_command_line::read_lab_command;
 use lab_debugger::{Screen, debug};
 use lab_exercises::exercise;
 use lab_explorer::show_every_end;
-use lab_grades::grade;
+use lab_grades::{grade, merge};
 use lab_pages::{write_page, write_picture, write_play_page};
 use lab_requests::{Colours, LabCommand};
 use lab_surveys::survey;
 use lab_views::{compare, view};
 use plain_text::{plain, push_plain};
+use printed_lines::{Printer, write_lines};
 use program_searches::Console;
 use std::alloc::{AllocError, Global};
 use std::fmt::Display;
@@ -54,7 +54,7 @@ pub(crate) struct Outputs<'a, W, E> {
 
 /// Runs the command of a command line, whose first word is the program's name, on these inputs and outputs, and gives the
 /// exit status ("Exit statuses", docs/LAB_REFERENCE.md). All is composed before anything is written, but for
-/// the prompts of `debug` and the line of a search.
+/// the prompts of `debug`, the rows of `grade` and the line of a search.
 pub(crate) fn run_lab<
     X: Threads + Wait + Sync + Clock,
     F: Files,
@@ -170,18 +170,23 @@ fn run_command<X: Threads + Wait + Sync + Clock, F: Files, R: Read + Send, W: Wr
                 is_terminal: outputs.terminals.errors,
                 memory: outputs.memory,
             };
-            let answer = answer_to(rt, alloc, command, inputs, &mut console)?;
+            let mut printer = Printer {
+                output: &mut *outputs.output,
+                is_coloured: painting.output,
+            };
+            let answer = answer_to(rt, alloc, command, inputs, &mut printer, &mut console)?;
             tell(answer, outputs, painting)
         }
     }
 }
 
 /// What a command answers.
-fn answer_to<X: Threads + Sync + Clock, F: Files, R: Read, E: Write>(
+fn answer_to<X: Threads + Wait + Sync + Clock, F: Files, R: Read, W: Write, E: Write>(
     rt: &X,
     alloc: Global,
     command: &LabCommand,
     inputs: &mut Inputs<'_, F, R>,
+    printer: &mut Printer<'_, W>,
     console: &mut Console<'_, X, E>,
 ) -> Result<CommandAnswer, LabFault> {
     match command {
@@ -202,7 +207,8 @@ fn answer_to<X: Threads + Sync + Clock, F: Files, R: Read, E: Write>(
         LabCommand::Debug { .. } | LabCommand::Adapt => Err(LabFault::Closed),
         LabCommand::Survey(request) => survey(rt, alloc, inputs, request, console),
         LabCommand::Explore(request) => show_every_end(alloc, inputs, request, console),
-        LabCommand::Grade(request) => grade(rt, alloc, inputs, request, console),
+        LabCommand::Grade(request) => grade(rt, alloc, inputs, request, printer, console),
+        LabCommand::Merge(request) => merge(alloc, inputs, request, printer),
         LabCommand::Exercise(request) => exercise(rt, alloc, inputs, request, console),
         LabCommand::Page(request) => write_page(alloc, inputs, request),
         LabCommand::Picture(request) => write_picture(alloc, inputs, request),
@@ -272,18 +278,4 @@ fn tell_words<E: Write>(words: &String, errors: &mut E, is_coloured: bool) {
 fn fault_line(alloc: Global, words: &str) -> Result<String, AllocError> {
     let line = plain(alloc, words)?;
     format!(in alloc; "mta_lab: {line}\n")
-}
-
-/// Writes lines for people, with colours or without; without where memory for them is refused.
-fn write_lines<W: Write>(
-    writer: &mut W,
-    lines: &String,
-    is_coloured: bool,
-) -> Result<(), LabFault> {
-    if is_coloured {
-        if let Ok(painted) = coloured(*lines.allocator(), lines.as_str()) {
-            return write_out(writer, painted.as_bytes());
-        }
-    }
-    write_out(writer, lines.as_bytes())
 }

@@ -52,6 +52,7 @@ fn is_for_people(command: &LabCommand) -> bool {
         LabCommand::Survey(request) => !request.shown.json,
         LabCommand::Explore(request) => !request.shown.json,
         LabCommand::Grade(request) => request.format == GradeFormat::Text,
+        LabCommand::Merge(request) => request.format == GradeFormat::Text,
         LabCommand::Exercise(_) => true,
         _ => false,
     }

@@ -1,6 +1,7 @@
 //! The one way in which the lab writes files ("Files", docs/LAB_REFERENCE.md).
 #![tactic(auto)]
 
+mod appending;
 mod contents;
 mod folders;
 mod identities;
@@ -12,6 +13,7 @@ mod used_files;
 mod write_faults;
 mod writing;
 
+pub use appending::{append, open_to_append};
 pub use folders::make_folder;
 pub use identities::FileIdentity;
 pub use new_files::{NewFile, NotMade, make_new};

@@ -158,7 +158,7 @@ fn write_to_special<F: Files>(
 }
 
 /// A fault where this file is one that the run uses.
-fn refuse_used<F: Files>(
+pub(crate) fn refuse_used<F: Files>(
     alloc: Global,
     files: &F,
     used: &UsedFiles,

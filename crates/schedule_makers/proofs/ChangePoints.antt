@@ -11,7 +11,7 @@ pub record AreChanges (seed fair_steps first second : ℕ) : Type 0 where
   pub first_is : first ≡ change_point seed fair_steps 0
   pub second_is : second ≡ change_point seed fair_steps 1
 
-two-words : (seed w0 w1 : ℕ) (g0 g1 g2 : List ℕ) → g0 ≡ of_seed (splitmix_seed 32 seed) → (w0, g1) ≡ plus_plus g0
+pub two-words : (seed w0 w1 : ℕ) (g0 g1 g2 : List ℕ) → g0 ≡ of_seed (splitmix_seed 32 seed) → (w0, g1) ≡ plus_plus g0
     → (w1, g2) ≡ plus_plus g1 → (w0 ≡ random_word seed 0) × (w1 ≡ random_word seed 1)
 unfolding random_word generator_after
 two-words seed w0 w1 g0 g1 g2 begun one two =

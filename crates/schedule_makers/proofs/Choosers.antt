@@ -13,6 +13,7 @@ use Rattle.schedule_makers.specs.declared.chooser.Chooser.TheVariants as chooser
 use Rattle.schedule_makers.proofs.Rules.{rounds-one, rounds-any, fair-one, fair-any}
 use Rattle.schedule_makers.proofs.TurnTaken.{turns-one, turns-any}
 use Rattle.schedule_makers.proofs.HighestFree.{priorities-one, priorities-any}
+use Rattle.schedule_makers.proofs.LateTaken.{late-one, late-any}
 use Rattle.schedule_makers.proofs.Randomness.{by-word-one, by-word-any, word-small}
 
 rule-one : (c : Chooser) (before : List Step) (image : ImageValue) (w : World) (t : Step)
@@ -23,6 +24,8 @@ rule-one (chooser.Random words) before image w t e =
     by-word-one (random_word words.seed (length before)) (running_steps w) t e
 rule-one (chooser.Turns average words) before image w t e =
     turns-one average (random_word words.seed (length before)) before image w t e
+rule-one (chooser.LeftOut late words) before image w t e =
+    late-one late.seed late.steps (random_word words.seed (length before)) before image w t e
 rule-one (chooser.Priorities p words) before image w t e =
     priorities-one p.seed p.fair_steps (random_word words.seed (length before)) before image w t e
 
@@ -34,6 +37,8 @@ rule-any (chooser.Random words) before image w e =
     by-word-any (random_word words.seed (length before)) (running_steps w) (word-small words.seed (length before)) e
 rule-any (chooser.Turns average words) before image w e =
     turns-any average (random_word words.seed (length before)) before image w e
+rule-any (chooser.LeftOut late words) before image w e =
+    late-any late.seed late.steps (random_word words.seed (length before)) before image w e
 rule-any (chooser.Priorities p words) before image w e =
     priorities-any p.seed p.fair_steps (random_word words.seed (length before)) before image w e
 

@@ -1,5 +1,5 @@
--- By turns and by priorities a free stream steps wherever there is one.
-use Rattle.std.proofs.Common.{◌≡◌, ℕ, zero, suc, ◌<◌, ◌%◌, ◌^◌, ◌==◌, nat_lt, Bool, true, false, refl, sym, ap, ◌∙◌, subst}
+-- By turns, with one stream left out and by priorities a free stream steps wherever there is one.
+use Rattle.std.proofs.Common.{◌≡◌, ℕ, zero, suc, ◌<◌, ◌%◌, ◌^◌, ◌==◌, ◌||◌, nat_lt, Bool, true, false, not, refl, sym, ap, ◌∙◌, subst}
 use Rattle.std.proofs.Common.{arith, cond, List, [], ◌∷◌, length, Option, Some, None, if◌then◌else◌}
 use Rattle.std.specs.Prelude.{Contains, filter}
 use Rattle.std.specs.Option.{option_or}
@@ -8,17 +8,18 @@ use Rattle.image_file.specs.ImageValue.{ImageValue}
 use Rattle.processor.specs.World.{World}
 use Rattle.processor.specs.declared.steps.Step.{Step}
 use Rattle.waiting.specs.Running.{running_steps}
-use Rattle.schedule_makers.specs.Rules.{Rule, last_step, next_in_rounds}
+use Rattle.schedule_makers.specs.Rules.{Rule, last_step, is_of_stream, next_in_rounds}
 use Rattle.schedule_makers.specs.Randomness.{random_word, step_by_word, next_at_random}
-use Rattle.schedule_makers.specs.Free.{is_free, free_steps}
-use Rattle.schedule_makers.specs.Turns.{same_turn, turn_by_word, next_in_turns}
+use Rattle.schedule_makers.specs.Free.{is_free, free_steps, is_free_but, free_but}
+use Rattle.schedule_makers.specs.Turns.{same_turn, turn_but, turn_by_word, next_in_turns}
 use Rattle.schedule_makers.specs.Priorities.{priority, is_above, highest_from, highest, highest_free, priority_steps}
 use Rattle.schedule_makers.specs.Priorities.{next_by_priority}
+use Rattle.schedule_makers.specs.LeftOut.{left_out, delay, next_but_one_late}
 use Rattle.schedule_makers.specs.Seeds.{rule_of_seed}
 use Rattle.schedule_makers.specs.Laws.{TakesFree}
-use Rattle.schedule_makers.proofs.Rules.{none-filtered}
+use Rattle.schedule_makers.proofs.Rules.{none-filtered, or_none}
 use Rattle.schedule_makers.proofs.Randomness.{by-word-one, by-word-any, word-small}
-use Rattle.schedule_makers.proofs.TurnTaken.{free-runs, same-turn-free}
+use Rattle.schedule_makers.proofs.TurnTaken.{both_last, free-runs, same-turn-free}
 use Rattle.schedule_makers.proofs.HighestFree.{highest-one}
 
 -- Of lists.
@@ -45,17 +46,30 @@ none-free image w u free e = none-filtered (is_free image w) (running_steps w) u
 
 -- In turns.
 
+-- what is taken of those that are not left out
+but-free : (n word : ℕ) (out : Option Step) (before : List Step) (image : ImageValue) (w : World) (t : Step)
+    → turn_but n word out before image w ≡ Some t → is_free image w t ≡ true
+but-free n word out before image w t e =
+    either_or (is_free image w t ≡ true) t (same_turn n word out image w (last_step before))
+    (step_by_word word (free_but out image w))
+    (same-turn-free n word out image w (last_step before) t)
+    (λ ended taken. both_last (not (is_of_stream out t)) (is_free image w t)
+    (filter-passes (is_free_but out image w) (running_steps w) t (by-word-one word (free_but out image w) t taken)))
+    e
+
+-- where none is taken of all, none is free
+none-taken : (n word : ℕ) (before : List Step) (image : ImageValue) (w : World) (u : Step) → word < 2 ^ 64
+    → is_free image w u ≡ true → turn_but n word None before image w ≡ None → ⊥
+none-taken n word before image w u small free e =
+    none-free image w u free (by-word-any word (free_steps image w) small
+    (or_none (same_turn n word None image w (last_step before)) (step_by_word word (free_steps image w)) e))
+
 turn-free : (n word : ℕ) (before : List Step) (image : ImageValue) (w : World) (t u : Step) → word < 2 ^ 64
     → turn_by_word n word before image w ≡ Some t → is_free image w u ≡ true → is_free image w t ≡ true
 turn-free n word before image w t u small e free =
-    let Q : Type 0 = is_free image w t ≡ true in
-    let others = step_by_word word (free_steps image w) in
-    let rounds = next_in_rounds before image w in
-    either_or Q t (same_turn n word image w (last_step before)) (option_or others rounds)
-    (same-turn-free n word image w (last_step before) t)
-    (λ ended. either_or Q t others rounds
-    (λ taken. filter-passes (is_free image w) (running_steps w) t (by-word-one word (free_steps image w) t taken))
-    (λ none taken. absurd (none-free image w u free (by-word-any word (free_steps image w) small none))))
+    either_or (is_free image w t ≡ true) t (turn_but n word None before image w) (next_in_rounds before image w)
+    (but-free n word None before image w t)
+    (λ none taken. absurd (none-taken n word before image w u small free none))
     e
 
 turns-take-free : (n seed : ℕ) → TakesFree (next_in_turns n seed)
@@ -101,17 +115,38 @@ priorities-take-free seed fair_steps before image w t u e free =
     (λ taken. turn-free 8 word before image w t u (word-small seed (length before)) taken free)
     e
 
+-- With one stream left out.
+
+some_then : (Q : Type 0) (b : Bool) (o : Option Step) (t : Step) → (o ≡ Some t → Q) → (if b then o else None) ≡ Some t → Q
+some_then Q true o t taken e = taken e
+some_then Q false o t taken e = absurd (let h : ⊥ = cc in h)
+
+late-takes-free : (seed fair_steps : ℕ) → TakesFree (next_but_one_late seed fair_steps)
+late-takes-free seed fair_steps before image w t u e free =
+    let Q : Type 0 = is_free image w t ≡ true in
+    let word = random_word seed (length before) in
+    let others = turn_but 8 word (left_out seed w) before image w in
+    let late = nat_lt (length before) (delay seed fair_steps) in
+    either_or Q t (if late then others else None) (turn_by_word 8 word before image w)
+    (some_then Q late others t (but-free 8 word (left_out seed w) before image w t))
+    (λ none taken. turn-free 8 word before image w t u (word-small seed (length before)) taken free)
+    e
+
 -- By the rule of a seed.
 
-one-of-four : (a b c : Bool) (uniform short long last : Rule) → (a ≡ true → ⊥) → TakesFree short → TakesFree long
-    → TakesFree last → TakesFree (if a then uniform else if b then short else if c then long else last)
-one-of-four true b c uniform short long last other x y z = absurd (other refl)
-one-of-four false true c uniform short long last other x y z = x
-one-of-four false false true uniform short long last other x y z = y
-one-of-four false false false uniform short long last other x y z = z
+one-of-five : (a b c d : Bool) (uniform late short long last : Rule) → (a ≡ true → ⊥) → TakesFree late
+    → TakesFree short → TakesFree long → TakesFree last
+    → TakesFree (if a then uniform else if b then late else if c then short else if d then long else last)
+one-of-five true b c d uniform late short long last other v x y z = absurd (other refl)
+one-of-five false true c d uniform late short long last other v x y z = v
+one-of-five false false true d uniform late short long last other v x y z = x
+one-of-five false false false true uniform late short long last other v x y z = y
+one-of-five false false false false uniform late short long last other v x y z = z
 
-pub seeds-take-free : (seed fair_steps : ℕ) → ¬ (seed % 4 ≡ 0) → TakesFree (rule_of_seed seed fair_steps)
+pub seeds-take-free : (seed fair_steps : ℕ) → ¬ (seed % 8 ≡ 0) → TakesFree (rule_of_seed seed fair_steps)
 seeds-take-free seed fair_steps other =
-    one-of-four (seed % 4 == 0) (seed % 4 == 1) (seed % 4 == 2) (next_at_random seed) (next_in_turns 8 seed)
-    (next_in_turns 32 seed) (next_by_priority seed fair_steps) (λ e. other (eqb-true (seed % 4) 0 e))
-    (turns-take-free 8 seed) (turns-take-free 32 seed) (priorities-take-free seed fair_steps)
+    one-of-five (seed % 8 == 0) (seed % 8 == 4) ((seed % 8 == 1) || (seed % 8 == 5))
+    ((seed % 8 == 2) || (seed % 8 == 6)) (next_at_random seed) (next_but_one_late seed fair_steps)
+    (next_in_turns 8 seed) (next_in_turns 32 seed) (next_by_priority seed fair_steps)
+    (λ e. other (eqb-true (seed % 8) 0 e)) (late-takes-free seed fair_steps) (turns-take-free 8 seed)
+    (turns-take-free 32 seed) (priorities-take-free seed fair_steps)

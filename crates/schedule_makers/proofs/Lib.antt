@@ -4,6 +4,7 @@ pub mod LastSteps
 pub mod Randomness
 pub mod TurnTaken
 pub mod HighestFree
+pub mod LateTaken
 pub mod ChangePoints
 pub mod FreeTaken
 pub mod Choosers

@@ -1,5 +1,5 @@
 -- Which streams are free: they run, and the memory would not block their next step (docs/MACHINE.md, "Schedules").
-use Rattle.std.specs.Prelude.{◌&&◌, Bool, true, false, not, List, filter}
+use Rattle.std.specs.Prelude.{◌&&◌, Bool, true, false, not, List, Option, filter}
 use Rattle.tag_memory.specs.Answer.{answer}
 use Rattle.tag_memory.specs.declared.requests.Reply.{Reply}
 use Rattle.tag_memory.specs.declared.requests.Reply.TheVariants as reply
@@ -10,6 +10,7 @@ use Rattle.processor.specs.declared.steps.Next.TheVariants as next
 use Rattle.processor.specs.declared.steps.Step.{Step}
 use Rattle.machine.specs.MachineValue.{next_in}
 use Rattle.waiting.specs.Running.{runs_in, running_steps}
+use Rattle.schedule_makers.specs.Rules.{is_of_stream}
 
 -- whether a reply is Blocked
 abbrev pub is_blocked_reply : Reply → Bool
@@ -30,3 +31,11 @@ is_free image w t = runs_in w t && not (would_block w (next_in (record { image =
 -- the steps of all free streams, in the order of processor and stream
 abbrev pub free_steps : ImageValue → World → List Step
 free_steps image w = filter (is_free image w) (running_steps w)
+
+-- whether it is free, and not the stream that is left out, if one is
+abbrev pub is_free_but : Option Step → ImageValue → World → Step → Bool
+is_free_but out image w t = not (is_of_stream out t) && is_free image w t
+
+-- the steps of all free streams but that one, in the same order
+abbrev pub free_but : Option Step → ImageValue → World → List Step
+free_but out image w = filter (is_free_but out image w) (running_steps w)

@@ -24,4 +24,4 @@ TakesFree rule =
 
 -- So does the rule of each seed that is not uniform.
 abbrev pub SeedsTakeFree : Type 0
-SeedsTakeFree = (seed fair_steps : ℕ) → ¬ (seed % 4 ≡ 0) → TakesFree (rule_of_seed seed fair_steps)
+SeedsTakeFree = (seed fair_steps : ℕ) → ¬ (seed % 8 ≡ 0) → TakesFree (rule_of_seed seed fair_steps)

@@ -4,6 +4,7 @@ pub mod Randomness
 pub mod Free
 pub mod Turns
 pub mod Priorities
+pub mod LeftOut
 pub mod Seeds
 pub mod Made
 pub mod FairLengths

@@ -1,10 +1,10 @@
 -- Priorities: each stream has one at random, and falls below the others at two steps (docs/MACHINE.md, "Schedules").
-use Rattle.std.specs.Prelude.{◌==◌, ◌&&◌, ◌+◌, ◌*◌, ◌/◌, ◌%◌, ◌^◌, nat_lt, ℕ, Bool, true, false, List, [], ◌∷◌}
+use Rattle.std.specs.Prelude.{◌+◌, ◌*◌, ◌/◌, ◌%◌, ◌^◌, nat_lt, ℕ, Bool, true, List, [], ◌∷◌}
 use Rattle.std.specs.Prelude.{Option, Some, None, length, slice_get, if◌then◌else◌}
 use Rattle.std.specs.Option.{option_or}
 use Rattle.processor.specs.declared.steps.Step.{Step}
 use Rattle.rand_xoshiro.specs.SplitMix64.{mix_u64}
-use Rattle.schedule_makers.specs.Rules.{Rule, next_in_rounds}
+use Rattle.schedule_makers.specs.Rules.{Rule, is_of_stream, next_in_rounds}
 use Rattle.schedule_makers.specs.Randomness.{random_word}
 use Rattle.schedule_makers.specs.Free.{free_steps}
 use Rattle.schedule_makers.specs.Turns.{turn_by_word}
@@ -31,11 +31,6 @@ earlier_change seed fair_steps =
 abbrev pub later_change : ℕ → ℕ → ℕ
 later_change seed fair_steps =
     if is_second_earlier seed fair_steps then change_point seed fair_steps 0 else change_point seed fair_steps 1
-
--- whether a step, which may be missing, is of the same stream as another
-abbrev pub is_of_stream : Option Step → Step → Bool
-is_of_stream None t = false
-is_of_stream (Some u) t = (u.p == t.p) && (u.s == t.s)
 
 -- a stream's priority, where these steps were taken at the later and at the earlier change point: the stream of the later
 -- one is the last of all, that of the earlier one the last but one

@@ -1,5 +1,5 @@
 -- Which running stream steps next (docs/MACHINE.md, "Schedules").
-use Rattle.std.specs.Prelude.{◌==◌, ◌&&◌, ◌||◌, ◌-◌, nat_lt, ℕ, Bool, true, List, Option, Some, None, find, filter, length}
+use Rattle.std.specs.Prelude.{◌==◌, ◌&&◌, ◌||◌, ◌-◌, nat_lt, ℕ, Bool, true, false, List, Option, Some, None, find, filter, length}
 use Rattle.std.specs.Prelude.{slice_get, option_and_then}
 use Rattle.std.specs.Option.{option_or}
 use Rattle.image_file.specs.ImageValue.{ImageValue}
@@ -22,6 +22,11 @@ among_running choice before image w = choice before (running_steps w)
 -- the last of these steps
 abbrev pub last_step : List Step → Option Step
 last_step ts = slice_get ts (length ts - 1)
+
+-- whether a step, which may be missing, is of the same stream as another
+abbrev pub is_of_stream : Option Step → Step → Bool
+is_of_stream None t = false
+is_of_stream (Some u) t = (u.p == t.p) && (u.s == t.s)
 
 -- whether the second step stands behind the first in the order of processor and stream
 abbrev pub is_behind : Step → Step → Bool

@@ -5,6 +5,7 @@ ghost use Rattle.waiting.specs.Running.{running_steps};
 ghost use Rattle.schedule_makers.specs.Choosers.{rule_of, Follows};
 
 use crate::fair_choice::Fair;
+use crate::left_out::LeftOut;
 use crate::priorities::Priorities;
 use crate::random_choice::step_by_word;
 use crate::rounds_choice::next_in_rounds;
@@ -24,6 +25,8 @@ pub(crate) enum Chooser {
     Random(SeedWords),
     /// In turns of so many steps on average, by these words.
     Turns(u64, SeedWords),
+    /// In turns of 8 steps by these words, for some steps without the stream that is left out.
+    LeftOut(LeftOut, SeedWords),
     /// By these priorities, and then in turns by these words.
     Priorities(Priorities, SeedWords),
 }
@@ -48,6 +51,12 @@ impl Chooser {
             Chooser::Random(words) => step_by_word(words.word_after(made), running),
             Chooser::Turns(average, words) => turn_by_word(
                 *average,
+                words.word_after(made),
+                machine,
+                made,
+                running,
+            ),
+            Chooser::LeftOut(late, words) => late.choose(
                 words.word_after(made),
                 machine,
                 made,

@@ -2,10 +2,11 @@
 
 ghost use Rattle.std.specs.Prelude.{◌≡◌, filter};
 ghost use Rattle.schedule_makers.specs.Free.{is_free};
-ghost use Rattle.schedule_makers.specs.Priorities.{random_number, is_of_stream, highest};
+ghost use Rattle.schedule_makers.specs.Priorities.{random_number, highest};
 ghost use Rattle.schedule_makers.specs.Changes.{rank_of, IsRanked, is_above_best, step_of, better};
 
 use crate::free_streams::is_free;
+use crate::steps_at::is_of_stream;
 use machine::Machine;
 use processor::Step;
 use rand_xoshiro::SplitMix64;
@@ -93,18 +94,8 @@ fn priority_of(ranks: &Ranks, step: Step) -> u128
     }
 }
 
-/// Whether a step, which may be missing, is of the same stream as another.
-fn is_of_stream(one: Option<Step>, step: Step) -> bool
-    ensures { result ≡ is_of_stream one step }
-{
-    match one {
-        None => false,
-        Some(one) => one.p == step.p && one.s == step.s,
-    }
-}
-
 /// The random number of a step's stream.
-fn random_number(seed: u64, step: Step) -> u64
+pub(crate) fn random_number(seed: u64, step: Step) -> u64
     ensures { result ≡ random_number seed step }
 {
     let number = 256 * u64::from(step.p) + u64::from(step.s) + 1;

@@ -1,5 +1,5 @@
-//! Schedules that are made step by step of the streams that run: in rounds, fairly, at random, in turns or by priorities
-//! (docs/MACHINE.md, "Schedules").
+//! Schedules that are made step by step of the streams that run: in rounds, fairly, at random, in turns, with one stream
+//! left out, or by priorities (docs/MACHINE.md, "Schedules").
 #![tactic(auto)]
 
 mod advancing;
@@ -9,6 +9,7 @@ mod fair_lengths;
 mod free_streams;
 mod highest;
 mod laws;
+mod left_out;
 mod looking;
 mod made;
 mod makers;

@@ -65,11 +65,12 @@ pub fn random<const S: usize>(
     )
 }
 
-/// The same by the rule that the seed's number says, so that rare bugs are found by some of many seeds. `seed % 4` is 0:
-/// as `random`. 1 or 2: in turns of 8 or of 32 steps on average, among the streams that are not blocked. 3: the stream
-/// that is not blocked and has the highest priority; each has one at random, and at two of the steps the one that takes
-/// it falls below all others. `fair_steps` is how many steps the fair schedule of the same machine has. The same seed
-/// and number of fair steps give the same schedule everywhere.
+/// The same by the rule that the seed's number says, so that rare bugs are found by some of many seeds. `seed % 8` is 0:
+/// as `random`. 1 or 5: in turns of 8 steps on average, among the streams that are not blocked. 2 or 6: in turns of 32.
+/// 3 or 7: the stream that is not blocked and has the highest priority; each has one at random, and at two of the steps
+/// the one that takes it falls below all others. 4: in turns of 8, for a number of steps at random without one of the
+/// streams, as long as another one is not blocked. `fair_steps` is how many steps the fair schedule of the same machine
+/// has. The same seed and number of fair steps give the same schedule everywhere.
 pub fn seeded<const S: usize>(
     alloc: Global,
     machine: &mut Machine<'_, S>,

@@ -5,6 +5,7 @@ ghost use Rattle.schedule_makers.specs.Seeds.{rule_of_seed};
 ghost use Rattle.schedule_makers.specs.Choosers.{rule_of, Follows};
 
 use crate::chooser::Chooser;
+use crate::left_out::LeftOut;
 use crate::priorities::Priorities;
 use crate::seed_words::SeedWords;
 
@@ -14,10 +15,11 @@ pub(crate) fn chooser_of_seed(seed: u64, fair_steps: usize) -> Chooser
     ensures follows { Follows result [] }
 {
     let words = SeedWords::new(seed);
-    match seed % 4 {
+    match seed % 8 {
         0 => Chooser::Random(words),
-        1 => Chooser::Turns(8, words),
-        2 => Chooser::Turns(32, words),
+        4 => Chooser::LeftOut(LeftOut::new(seed, fair_steps), words),
+        1 | 5 => Chooser::Turns(8, words),
+        2 | 6 => Chooser::Turns(32, words),
         _ => Chooser::Priorities(Priorities::new(seed, fair_steps), words),
     }
 }

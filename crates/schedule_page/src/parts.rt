@@ -1,7 +1,9 @@
 //! The texts of a page. Made by page/embed.py of the files in page/.
 
 mod actions_script;
+mod chips_script;
 mod choices_script;
+mod claims_script;
 mod effects_script;
 mod findings_script;
 mod goals_script;
@@ -10,6 +12,7 @@ mod graph_script;
 mod keys_script;
 mod kinds_script;
 mod lanes_script;
+mod lecture_script;
 mod map_script;
 mod naming_script;
 mod panes_script;
@@ -22,6 +25,7 @@ mod template_3;
 mod template_4;
 mod template_5;
 mod way_script;
+mod why_script;
 
 use replay_page::{
     push_base_style, push_elements_script, push_program_script, push_sentences_script,
@@ -53,10 +57,14 @@ pub(crate) fn push_tail(page: &mut String) -> Result<(), AllocError> {
     page.push_str(kinds_script::TEXT)?;
     page.push_str(way_script::TEXT)?;
     page.push_str(naming_script::TEXT)?;
+    page.push_str(chips_script::TEXT)?;
     page.push_str(actions_script::TEXT)?;
     page.push_str(findings_script::TEXT)?;
     page.push_str(effects_script::TEXT)?;
+    page.push_str(claims_script::TEXT)?;
     page.push_str(telling_script::TEXT)?;
+    page.push_str(why_script::TEXT)?;
+    page.push_str(lecture_script::TEXT)?;
     page.push_str(choices_script::TEXT)?;
     page.push_str(lanes_script::TEXT)?;
     page.push_str(picture_script::TEXT)?;

@@ -14,14 +14,19 @@ function makeChoices() {
   byId("choices").replaceChildren(...choiceNodes);
 }
 
-const BADGES = 6;
+/** The ends that a step from one state to another puts out of reach. */
+function lostBetween(w, to) {
+  const after = new Set(endsAhead(to));
+  return endsAhead(w).filter((e) => !after.has(e));
+}
 
 /** The ends that can come after a step, and those that it puts out of reach. */
-function badgesAfter(w, to) {
-  const after = new Set(endsAhead(to));
-  const all = endsAhead(w).map((e) => badge(e, !after.has(e)));
-  return all.length > BADGES ? [...all.slice(0, BADGES), html("span", { class: "muted" },
-    `and ${all.length - BADGES} more`)] : all;
+const badgesAfter = (w, to) => [...chips(endsAhead(to), false), ...chips(lostBetween(w, to), true)];
+
+/** The same in words. */
+function afterText(w, to) {
+  const lost = lostBetween(w, to);
+  return `. Then can come: ${endsText(endsAhead(to))}${lost.length ? `; no longer: ${endsText(lost)}` : ""}`;
 }
 
 function showChoice(node, w, k) {
@@ -32,16 +37,14 @@ function showChoice(node, w, k) {
     : isIdle ? [`changes nothing${asks ? " now" : ", forever"}`] : joined(effectParts(w, k));
   if (isBlocked(w, k)) effect.push(isIdle ? ". A step now changes nothing." : ". A step counts one more try.");
   const isBadged = isAheadShown() && !isIdle && endsAhead(w).length > 1;
-  const badges = isBadged ? badgesAfter(w, leads[k][w]) : [];
+  const badges = view.vote ? [votesFor(k)] : isBadged ? badgesAfter(w, leads[k][w]) : [];
   const key = k < 9 ? String(k + 1) : "";
   node.className = `choice${view.hinted === k ? " hinted" : ""}`;
   node.setAttribute("aria-disabled", String(isIdle));
   if (key) node.setAttribute("aria-keyshortcuts", key);
-  const lost = isBadged ? endsAhead(w).filter((e) => !endsAhead(leads[k][w]).includes(e)).map(label) : [];
-  const left = isBadged ? endsAhead(leads[k][w]).map(label) : [];
   const hint = view.hinted === k ? "Hint: " : "";
   const told = `${hint}${names[k]} at ${placeOf(pc)}: ${statement(pc)}: ${words(effect)}`;
-  const tail = isBadged ? `. Then can come: ${and(left)}${lost.length ? `; no longer: ${and(lost)}` : ""}` : "";
+  const tail = view.vote ? `. ${count(view.vote[k], "vote", "votes")}` : isBadged ? afterText(w, leads[k][w]) : "";
   node.setAttribute("aria-label", cut(told, 400) + tail);
   node.replaceChildren(key ? html("kbd", {}, key) : html("span"), html("span", { class: "who" }, names[k]),
     html("span", { class: "what" }, html("span", { class: "statement" }, cut(statement(pc), 80)),
@@ -72,8 +75,8 @@ function showChoices() {
   const isDead = kinds[endHere()] === "deadlock"; // then the result tells who waits for what
   byId("choices").hidden = isDead;
   const canStep = names.some((_, k) => runs(w, k) && !leadsNowhere(w, k));
-  byId("choices-title").textContent = canStep ? "Who takes the next step?" : running.length ? "No stream can go on"
-    : "No stream runs any more";
+  byId("choices-title").textContent = !canStep ? running.length ? "No stream can go on" : "No stream runs any more"
+    : view.vote ? `Who takes the next step? ${count(votesCast(), "vote", "votes")}` : "Who takes the next step?";
   byId("choices-title").parentElement.hidden = !canStep && endIn.has(w);
   const isOnly = isAheadShown() && canStep && endsAhead(w).length === 1 && data.ends.length > 1;
   const isBadged = isAheadShown() && canStep && endsAhead(w).length > 1;
@@ -89,6 +92,7 @@ function showChoices() {
   });
   byId("others").textContent = texts.length ? `${texts.join("; ")}.` : "";
   byId("others").hidden = !texts.length;
+  showSkip();
   // What had the focus is gone: the next stream that can step has it.
   if (hadFocus || (focused >= 0 && (choiceNodes[focused].hidden || isDead))) {
     const next = !isDead && choiceNodes.find((node) => !node.hidden && node.getAttribute("aria-disabled") !== "true");

@@ -66,6 +66,7 @@ function resultText() {
 }
 
 function show() {
+  document.body.classList.toggle("lecture", view.lecture); // before the pictures are as wide as there is room
   tell();
   showResult();
   showGoals();
@@ -83,6 +84,9 @@ function show() {
   byId("hint").hidden = view.goal === null;
   byId("ahead").hidden = data.ends.length < 2;
   byId("ahead").setAttribute("aria-pressed", String(view.ahead));
+  byId("lecture").setAttribute("aria-pressed", String(view.lecture));
+  byId("vote").hidden = !view.lecture && !view.vote;
+  byId("vote").setAttribute("aria-pressed", String(view.vote !== null));
   byId("hex").setAttribute("aria-pressed", String(view.hex));
   document.body.dataset.state = here();
 }
@@ -96,28 +100,29 @@ function refresh() {
 function goTo(n, isPlayed) {
   if (!isPlayed) stop();
   view.at = Math.max(0, Math.min(way.length, n));
-  view.hinted = null;
+  Object.assign(view, { hinted: null, vote: null });
   if (view.at === 0 && !isPlayed) {
     Object.assign(view, { hints: 0, shown: null });
     if (view.goal !== null) way = []; // a game begins anew
   }
   refresh();
+  view.voted = "";
 }
 
-/** Takes a step of a stream, where it changes anything. */
+/** Takes a step of a stream, where it changes anything; in a vote the stream gets one. */
 function take(k) {
+  if (view.vote) return castVote(k);
   const w = here();
-  if (!names[k] || !runs(w, k)) return;
+  if (!names[k] || !runs(w, k)) return undefined;
   if (leadsNowhere(w, k)) {
-    say([html("b", {}, names[k]), " ", ...(isBlocked(w, k) ? waitParts(recordOf(w, k), view.at)
+    return say([html("b", {}, names[k]), " ", ...(isBlocked(w, k) ? waitParts(recordOf(w, k), view.at)
       : ["only runs in a loop"]), ". Nothing changes, so the step is not taken."]);
-    return;
   }
   if (way[view.at]?.[0] !== k) {
     way = way.slice(0, view.at);
     way.push([k, leads[k][w]]);
   }
-  goTo(view.at + 1);
+  return goTo(view.at + 1);
 }
 
 /** Puts a way after the steps that are kept. */
@@ -195,7 +200,7 @@ function followLink() {
     }
     if (k < 0) isWhole = false;
   }
-  Object.assign(view, { at: way.length, hints: 0, hinted: null, shown: null });
+  Object.assign(view, { at: way.length, hints: 0, hinted: null, shown: null, vote: null });
   if (!isWhole) view.told = [html("b", {}, "The link goes on"),
     " with a step that can’t be taken; here it is followed as far as it leads."];
   show();

@@ -23,19 +23,30 @@ const wordKeys = metWords();
 const drawnWords = wordKeys.filter((a) => data.steps.some((record) => record.length > 1
   && record[4] === a)).slice(0, WORDS_DRAWN);
 
+const HEAD = 158; // pixels of the lanes' names
+const NAME_LETTER = 8, SMALL_LETTER = 6.2, NUMBER_LETTER = 6.8; // pixels that a letter takes
+
+/** A text in so many pixels, of letters so wide; nothing where not even two of them have room. */
+function textIn(text, pixels, letter) {
+  const letters = Math.floor(pixels / letter);
+  return text.length <= letters ? text : letters < 2 ? "" : cut(text, letters);
+}
+
 function laneHead(y, height, name, note, sign) {
   const parts = [svg("text", { class: "name", x: sign ? 32 : 14, y: y + height / 2 + 4 }, name)];
-  if (note) parts.push(svg("text", { class: "small", x: 14 + 8 * name.length + 8, y: y + height / 2 + 4 }, note));
+  const left = 14 + NAME_LETTER * name.length + 8;
+  const text = textIn(note, HEAD - left, SMALL_LETTER);
+  if (text) parts.push(svg("text", { class: "small", x: left, y: y + height / 2 + 4 }, text));
   if (sign) parts.push(sign);
   return parts;
 }
 
 /** A sign as in the badges, drawn. */
 const SIGN_COLOURS = { right: "--full-ink", wrong: "--lost", broken: "--lost", deadlock: "--blocked",
-  stopped: "--stopped", spinning: "--trapped", plain: "--muted" };
+  stopped: "--stopped", spinning: "--trapped", plain: "--muted", found: "--lost" };
 function drawnSign(e, x, y) {
   const kind = kinds[e];
-  const rx = kind === "right" || kind === "plain" ? 7 : 3;
+  const rx = ["right", "plain", "found"].includes(kind) ? 7 : 3;
   return svg("g", {}, svg("rect", { x: x - 7, y: y - 7, width: 14, height: 14, rx,
     fill: `var(${SIGN_COLOURS[kind]})` }),
     svg("text", { x, y: y + 3.5, class: `letter ${kind}` }, SIGNS[kind]));
@@ -90,7 +101,7 @@ function boxes(y, x, cell) {
 }
 
 /** A word's bar, high while it is full and thin while it is empty; below it who reads and writes. */
-function wordLane(a, y, x, cell) {
+function wordLane(a, y, { x, cell, width }) {
   const parts = [];
   let from = drawn.from;
   const same = (n, m) => wordAt(stateAt(n), a).join() === wordAt(stateAt(m), a).join();
@@ -104,22 +115,34 @@ function wordLane(a, y, x, cell) {
       width: Math.max(1, right - left), y: isFull ? y + 4 : y + 17, height: isFull ? 18 : 5 }));
     if (from > drawn.from && value !== wordAt(stateAt(from - 1), a)[0]) parts.push(svg("line",
       { class: `tick${isUndone}`, x1: left, x2: left, y1: y + 4, y2: y + 22 }));
-    parts.push(svg("text", { class: `value${isUndone}`, x: left + 6, y: isFull ? y + 17 : y + 14 },
-      cut(number(value), 10)));
+    const room = (n > drawn.to ? width : right) - left - 8; // nothing stands after the last one
+    const text = textIn(number(value), Math.min(room, 10 * NUMBER_LETTER), NUMBER_LETTER);
+    if (text) parts.push(svg("text", { class: `value${isUndone}`, x: left + 6, y: isFull ? y + 17 : y + 14 },
+      svg("title", {}, number(value)), text));
     from = n;
   }
-  drawnSteps().forEach(([k, i]) => {
+  parts.push(...meetings(a, y, { x, cell, width }));
+  return parts;
+}
+
+/** Who reads and writes a word, below its bar. */
+function meetings(a, y, { x, cell, width }) {
+  const met = drawnSteps().filter(([k, i]) => {
     const record = recordOf(stateAt(i), k);
-    if (record[0] !== "done" || record[4] !== a) return; // else it read and wrote nothing
+    return record[0] === "done" && record[4] === a; // else it read and wrote nothing
+  });
+  return met.map(([k, i], at) => {
+    const record = recordOf(stateAt(i), k);
     const [middle, low] = [x(i + 1), y + 32];
     const isRead = record[1] === "LOAD" || record[1] === "TAGGET";
     const mark = isRead ? svg("circle", { class: "meet reads", cx: middle - 8, cy: low, r: 3.5 })
       : svg("path", { class: "meet", d: `M${middle - 12} ${low + 4}h9l-4.5-9z` });
     const told = isRead ? record[6] : record[1] === "FADD" ? `+${number(record[5])}` : record[5];
-    parts.push(svg("g", { class: i >= view.at ? "undone" : "" }, mark, svg("text", { class: "met", x: middle,
-      y: low + 4 }, cut(number2(told), 7))));
+    const room = at + 1 < met.length ? (met[at + 1][1] - i) * cell - 14 : width - middle;
+    const text = textIn(number2(told), Math.min(room, 7 * NUMBER_LETTER), NUMBER_LETTER);
+    return svg("g", { class: i >= view.at ? "undone" : "" }, mark, svg("title", {}, number2(told)),
+      ...(text ? [svg("text", { class: "met", x: middle, y: low + 4 }, text)] : []));
   });
-  return parts;
 }
 const number2 = (value) => (value === null || value[0] === "+" ? value ?? "" : number(value));
 

@@ -28,6 +28,9 @@ function cutApart(texts, letters) {
 }
 const theLabel = (e) => (["finished", "broken"].includes(data.ends[e].kind) ? label(e) : `the ${label(e)}`);
 
+/** A word's name and comment. */
+const noteOf = (a) => [givenName(a), remark(a).replace(/^word \d+(: |$)/, "")].filter(Boolean).join(": ");
+
 /** Some words that differ from the start at an end, by a name, and first those whose tags tell it from others. */
 function endWords(end, nameOf) {
   const tags = new Map(end.tags);
@@ -45,12 +48,16 @@ const waitersText = (end) => `${and(end.waiting.map(([who]) => who))} wait${end.
 const alsoStopped = (end) =>
   (end.stopped.length ? `; a trap stopped ${and(end.stopped.map(([who, trap]) => `${who} (${trapName(trap)})`))}` : "");
 
+/** What was found on the way to an end that nobody judges. */
+const foundText = (e) => (kinds[e] === "found" ? `; ${data.ends[e].findings[0].split(": ")[0]} in a shortest schedule`
+  : "");
+
 /** An end in words. */
 function endText(e) {
   const end = data.ends[e];
-  const values = endWords(end, wordName);
+  const values = endWords(end, namedWord);
   const tail = values.length ? `: ${and(values)}` : "";
-  if (end.kind === "finished") return `finished${tail}`;
+  if (end.kind === "finished") return `finished${tail}${foundText(e)}`;
   if (end.kind === "broken") return `a claim does not hold: ${end.text}`;
   if (end.kind === "deadlock") return `deadlock: ${waitersText(end)}${alsoStopped(end)}`;
   if (end.kind === "stopped") return `stopped by a trap: ${and(end.stopped.map(([who]) => who))}`;

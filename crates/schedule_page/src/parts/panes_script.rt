@@ -75,11 +75,30 @@ function showEnds() {
   });
   const more = data.ends.length - rows.length;
   byId("ends").replaceChildren(html("h2", {}, "What can still come"), html("ul", { "aria-label": "Ends" }, ...rows),
-    ...(more > 0 ? [html("p", { class: "muted" }, `${count(more, "more end", "more ends")}.`)] : []));
+    ...(more > 0 ? [html("p", { class: "muted" }, `${count(more, "more end", "more ends")}.`)] : []), ...judgeNotes());
   if (focused) (byId("ends").querySelector(`[data-end="${focused}"] .show`)
     ?? byId("undo")).focus({ preventScroll: true });
 }
 const ENDS_SHOWN = 40;
+
+/** A line of a file of expectations that an end meets. */
+function expectedLine(end) {
+  const [a, , value] = end.words.find(([, was, is]) => was !== is) ?? [];
+  return a === undefined ? "finished" : `word ${givenName(a) || a} ${value}`;
+}
+
+/** Where no end is judged: what a mark of an end means, and how the page can know right ends from wrong ones. */
+function judgeNotes() {
+  if (isJudged) return [];
+  const found = kinds.indexOf("found");
+  const finished = data.ends.filter((end) => end.kind === "finished");
+  const end = finished.find((one) => !one.findings.length) ?? finished[0];
+  const marked = found < 0 ? [] : [html("p", { class: "muted marked" }, signOf(found),
+    " An end with this sign has a finding in a shortest schedule.")];
+  return [...marked, html("p", { class: "muted judged" }, "Nothing says which ends are right. Write what you expect "
+    + "into a file, a line each", ...(end ? [", such as ", code(expectedLine(end))] : []), ", and make the page with ",
+  code("--expect FILE"), ".")];
+}
 
 const HIDDEN = new Set(["status", "pc"]);
 
@@ -142,7 +161,7 @@ function showState() {
         : change(number(was), number(is))),
       html("td", {}, html("span", { class: `bit ${fullText(tags)}`, "aria-hidden": "true" }),
         `${fullText(tags)}${tags & 14 ? `, ${tagsText(tags)}` : ""}`),
-      html("td", { class: "note" }, cut(comment(a).replace(/^word \d+(: |$)/, ""), 60),
+      html("td", { class: "note" }, cut(noteOf(a), 60),
         ...(who ? [html("span", { class: "waiting" }, ` ${and(who)} wait${who.length > 1 ? "" : "s"}`)] : [])));
   });
   const rest = shownWords.length - rows.length;

@@ -14,13 +14,16 @@ button { font: inherit; color: inherit; }
 .sign { display: inline-block; flex: none; width: 16px; height: 16px; border-radius: 8px; background: var(--muted);
   color: var(--paper); font: 700 11px/16px var(--prose); text-align: center; text-decoration: none; }
 .sign.right { background: var(--full-ink); }
+.sign.found { background: var(--lost-wash); color: var(--lost); box-shadow: inset 0 0 0 1.5px var(--lost); }
 .sign:is(.wrong, .broken) { background: var(--lost); border-radius: 3px; }
 .sign.deadlock { background: var(--blocked); color: #1a2027; border-radius: 3px; }
 .sign.stopped { background: var(--stopped); border-radius: 5px; }
 .sign.spinning { background: var(--trapped); }
 .sign.reached { background: var(--done); }
 .badge { display: inline-flex; align-items: center; gap: 5px; padding: 2px 8px 2px 3px; border-radius: 11px;
-  border: 1px solid var(--rule); background: var(--paper); font: 12px/16px var(--mono); white-space: nowrap; }
+  border: 1px solid var(--rule); background: var(--paper); font: 12px/16px var(--mono); white-space: nowrap;
+  min-width: 0; max-width: 100%; }
+.badge .text { overflow: hidden; text-overflow: ellipsis; }
 .badge.right { background: var(--full-wash); border-color: var(--full-ink); }
 .badge:is(.wrong, .broken, .stopped) { background: var(--lost-wash); border-color: var(--lost); }
 .badge.deadlock { background: var(--wait); border-color: var(--blocked-ink); }
@@ -115,6 +118,9 @@ section h2 { padding: 9px 14px; }
 kbd { border: 1px solid var(--rule); border-bottom-width: 2px; border-radius: 4px; padding: 0 5px;
   white-space: nowrap; }
 
+#skipping { display: flex; flex-wrap: wrap; gap: 4px 10px; align-items: center; padding: 8px 14px 0; font-size: 13px; }
+.votes { font: 600 15px var(--mono); white-space: nowrap; }
+
 /* The way so far. */
 #way { margin-top: 10px; border-top: 1px solid var(--rule); }
 #lanes { display: flex; padding-bottom: 6px; }
@@ -141,6 +147,7 @@ kbd { border: 1px solid var(--rule); border-bottom-width: 2px; border-radius: 4p
 .pic .met { font: 10.5px monospace; fill: var(--muted); }
 .pic .togo { font: 11px monospace; text-anchor: middle; } .pic .bar { fill: var(--rule); }
 .pic .bar.right { fill: var(--full); } .pic .bar:is(.wrong, .broken, .stopped) { fill: var(--lost); opacity: .28; }
+.pic .bar.found { fill: var(--lost); opacity: .18; }
 .pic .bar.deadlock { fill: var(--blocked); opacity: .5; } .pic .bar.spinning { fill: var(--trapped); opacity: .35; }
 .pic .cross { stroke: var(--lost); stroke-width: 2.5; fill: none; }
 .pic .cut { fill: var(--lost); font-weight: 600; }
@@ -170,6 +177,7 @@ kbd { border: 1px solid var(--rule); border-bottom-width: 2px; border-radius: 4p
 #legend { display: flex; flex-wrap: wrap; gap: 2px 14px; padding: 4px 12px 10px; color: var(--muted);
   font-size: 12.5px; }
 #legend span { display: inline-flex; align-items: center; gap: 5px; }
+#explored { padding: 0 12px 10px; font-size: 12.5px; }
 
 /* Source. */
 .line { display: flex; width: 100%; font: 12px/20px var(--mono); white-space: pre-wrap; overflow-wrap: anywhere; }
@@ -196,11 +204,11 @@ table { border-collapse: collapse; width: 100%; font-size: 13px; }
 #state tr.changed { box-shadow: inset 3px 0 var(--blocked); }
 #ends ul { list-style: none; }
 #ends li { display: flex; gap: 4px 10px; align-items: center; padding: 4px 12px; border-top: 1px solid var(--faint); }
-#ends .badge { min-width: 0; } #ends .badge .text { overflow: hidden; text-overflow: ellipsis; }
 #ends .togo { flex: 1 0 78px; text-align: right; font-size: 12.5px; color: var(--muted); }
 #ends .show { flex: none; min-width: 88px; text-align: center; }
 #map, #words, #streams { border-top: 1px solid var(--rule); }
-#ends p { padding: 0 12px 10px; }
+#ends p { padding: 4px 12px 8px; font-size: 12.5px; } #ends ul + p { border-top: 1px solid var(--faint); }
+#ends p .sign { vertical-align: -3px; }
 .show { padding: 0 9px; }
 .stream { border-top: 1px solid var(--faint); padding: 6px 12px 7px; }
 .stream.stepped { box-shadow: inset 3px 0 var(--blocked); }
@@ -221,6 +229,22 @@ dialog::backdrop { background: rgb(0 0 0 / .4); } dialog h2 { padding: 6px 0; fo
 dialog td { padding: 4px 14px 4px 0; vertical-align: top; } dialog p { margin: 10px 0; }
 textarea { width: 100%; font: 12.5px/18px var(--mono); color: inherit; background: var(--ground);
   border: 1px solid var(--rule); border-radius: 6px; padding: 6px 8px; resize: vertical; }
+
+/* In a lecture: the choices, the lanes and the map, large. */
+.lecture :is(#lead, #source, #ends, #words, #streams, #explored) { display: none; }
+.lecture main { grid-template-columns: minmax(0, 1.6fr) minmax(0, 1fr); grid-template-areas: "play state"; }
+.lecture #top h1 { font-size: 24px; } .lecture #goals { font-size: 17px; }
+.lecture .goal { font-size: 17px; line-height: 26px; } .lecture #map { border-top: 0; }
+.lecture #told { font-size: 21px; min-height: 92px; } .lecture section h2 { font-size: 19px; }
+.lecture #result h2 { font-size: 25px; } .lecture #result { font-size: 19px; }
+.lecture .choice { grid-template-columns: 38px 64px minmax(0, 1fr) auto; }
+.lecture .choice kbd { font-size: 20px; } .lecture .choice .who { font-size: 23px; }
+.lecture .choice .statement { font: 600 20px/30px var(--mono); }
+.lecture .choice :is(.place, .effect) { font-size: 18px; } .lecture .badge { font: 17px/24px var(--mono); }
+.lecture .badge { border-radius: 15px; } .lecture .votes { font-size: 26px; }
+.lecture :is(#skipping, #others, #only, #legend) { font-size: 17px; } .lecture #heads { width: 237px; }
+.lecture :is(.actions button, .show) { font-size: 17px; line-height: 26px; }
+
 @media (min-width: 1281px) and (min-height: 700px) {
   body { height: 100vh; }
   main { grid-template-rows: minmax(0, 1fr); }
@@ -245,9 +269,12 @@ textarea { width: 100%; font: 12.5px/18px var(--mono); color: inherit; backgroun
     clip-path: inset(50%); }
   #where { flex: 1; min-width: 0; font-size: 12px; }
   #heads { width: 84px; }
+  .lecture #heads { width: 120px; }
+  .lecture main { grid-template-columns: minmax(0, 1fr); grid-template-areas: "play" "state"; }
   .choice { grid-template-columns: 20px 34px minmax(0, 1fr); gap: 4px 8px; padding: 7px 8px; }
-  .choice .badges { grid-column: 3; justify-content: flex-start; max-width: none; }
+  .choice .badges { grid-column: 3; justify-content: flex-start; max-width: none; min-width: 0; }
   #choices { padding: 0 8px; }
   #result { padding-left: 46px; }
 }
+@media (max-width: 560px) { #controls #lecture { display: none; } }
 "#;

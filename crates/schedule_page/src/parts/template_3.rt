@@ -23,8 +23,10 @@ pub(crate) const TEXT: &str = r##"</style>
   </div>
   <output id="where"></output>
   <button id="hint" title="A next step on a shortest way to the goal (h)">Hint</button>
+  <button id="vote" aria-pressed="false" title="Vote on the next step (v)" hidden>Vote</button>
   <button id="ahead" aria-pressed="true" title="Show which ends can still be reached (b)">What can still come</button>
   <div class="group">
+    <button id="lecture" aria-pressed="false" title="Large, for a lecture (l)">Lecture</button>
     <button id="hex" aria-pressed="false" title="Hexadecimal numbers (x)">hex</button>
     <button id="copy" title="This way as a link and as a schedule (c)">Copy</button>
     <button id="help" aria-label="Keys and signs" title="Keys and signs (?)">?</button>
@@ -36,6 +38,8 @@ pub(crate) const TEXT: &str = r##"</style>
     <div id="happened" aria-live="polite"><p id="told"></p><div id="result" hidden></div></div>
     <div class="row"><h2 id="choices-title">Who takes the next step?</h2><p id="only"></p></div>
     <div id="choices" role="group" aria-labelledby="choices-title"></div>
+    <p id="skipping" hidden><span id="quiet" class="muted"></span> <button type="button" id="skip-on" class="show"
+      title="Take steps until a choice changes what can still come (n)"></button></p>
     <p id="others" class="muted"></p>
     <div id="way">
       <h2 id="way-title">Your way so far</h2>
@@ -55,6 +59,7 @@ pub(crate) const TEXT: &str = r##"</style>
       <h2 id="map-title"></h2>
       <div id="graph" role="img" aria-labelledby="map-title"></div>
       <div id="legend"></div>
+      <p id="explored" class="muted"></p>
     </div>
       <div id="words"></div><div id="streams"></div></div>
   </section>
@@ -68,6 +73,10 @@ pub(crate) const TEXT: &str = r##"</style>
     <tr><td><kbd>Home</kbd> <kbd>End</kbd></td><td>start again; do all again that was undone</td></tr>
     <tr><td><kbd>h</kbd></td><td>a hint: the next step on a shortest way to the goal</td></tr>
     <tr><td><kbd>b</kbd></td><td>show or hide what can still come</td></tr>
+    <tr><td><kbd>n</kbd></td><td>skip to the next choice, where none changes what can still come</td></tr>
+    <tr><td><kbd>l</kbd></td><td>large, for a lecture: the choices, the lanes and the map</td></tr>
+    <tr><td><kbd>v</kbd></td><td>vote: the numbers count votes, and <kbd>v</kbd> takes the step that has most of
+      them</td></tr>
     <tr><td><kbd>Space</kbd></td><td>pause or go on, while a way is shown</td></tr>
     <tr><td><kbd>c</kbd></td><td>this way as a link and as a schedule</td></tr>
     <tr><td><kbd>x</kbd></td><td>hexadecimal or decimal numbers</td></tr>

@@ -1,4 +1,4 @@
-use Rattle.std.proofs.Common.{◌≡◌, ◌+◌, ◌≤◌, length}
+use Rattle.std.proofs.Common.{◌≡◌, false, ◌+◌, ◌≤◌, length}
 use Rattle.std.specs.Option.{option_copied}
 use Rattle.text_parts.specs.Pieces.{pieces, rest_pieces, rest_length}
 use Rattle.expectation_files.specs.Files.{lines_said, in_front}
@@ -10,8 +10,8 @@ abbrev pub invariant-loop-rest : goal.invariant-loop-rest
 invariant-loop-rest l = record {
   found :
       in_front (requirements_seen l.found)
-      (lines_said (names_in l.names) l.image (l.number + 1) (rest_pieces 10 (option_copied l.rest)))
-      ≡ lines_said (names_in l.names) l.image 1 (pieces 10 l.text);
+      (lines_said (names_in l.names) l.image l.has_points (l.number + 1) (rest_pieces 10 (option_copied l.rest)))
+      ≡ lines_said (names_in l.names) l.image false 1 (pieces 10 l.text);
   number : l.number + rest_length (option_copied l.rest) ≤ length l.text + 1;
 }
 

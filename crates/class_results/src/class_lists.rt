@@ -1,0 +1,11 @@
+//! The list of the submissions of a class.
+
+use std::alloc::{AllocError, Global};
+
+/// The submissions of a class: sorted by the bytes of their paths, each once.
+pub fn class_of<'a>(alloc: Global, paths: &[&'a str]) -> Result<Vec<&'a str>, AllocError> {
+    let mut class = Vec::from_slice(alloc, paths)?;
+    class.sort()?;
+    class.dedup();
+    Ok(class)
+}

@@ -1,0 +1,32 @@
+-- The points of a submission.
+use Rattle.std.specs.Prelude.{ℕ, ◌+◌, List, [], ◌∷◌, Option, Some, None, unwrap_or}
+use Rattle.judgements.specs.declared.verdict_kinds.VerdictKind.{VerdictKind}
+use Rattle.judgements.specs.declared.verdict_kinds.VerdictKind.TheVariants as verdict
+use Rattle.lab_requests.specs.declared.requests.Undecided.{Undecided}
+use Rattle.lab_requests.specs.declared.requests.Undecided.TheVariants as undecided
+use Rattle.grade_reports.specs.declared.rows.CaseRow.{CaseRow}
+
+-- the score of a case with so many points that is not decided
+abbrev pub undecided_score : Undecided → ℕ → Option ℕ
+undecided_score undecided.Unscored points = None
+undecided_score undecided.Right points = Some points
+undecided_score undecided.Wrong points = Some 0
+
+-- the score by a case with so many points: all of them where the submission is right, and none where it is not right; what is
+-- not judged has no score
+abbrev pub score_of : Undecided → VerdictKind → ℕ → Option ℕ
+score_of u verdict.Right points = Some points
+score_of u verdict.NotDecided points = undecided_score u points
+score_of u verdict.NotJudged points = None
+score_of u verdict.NotRead points = Some 0
+score_of u verdict.SourceFault points = Some 0
+score_of u verdict.Trap points = Some 0
+score_of u verdict.Deadlock points = Some 0
+score_of u verdict.Wrong points = Some 0
+score_of u verdict.RanOutOfSteps points = Some 0
+score_of u verdict.Spins points = Some 0
+
+-- the sum of the scores by cases
+abbrev pub earned_points : Undecided → List CaseRow → ℕ
+earned_points u [] = 0
+earned_points u (c ∷ cs) = unwrap_or (score_of u c.kind c.points) 0 + earned_points u cs

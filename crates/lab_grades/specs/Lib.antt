@@ -1,0 +1,2 @@
+-- The promises, in the order of reading: clauses of public functions cite them.
+pub mod Rows

@@ -1,0 +1,14 @@
+//! The lines of a file of kept results: the list of a class, and a result each, which end with checksums of themselves
+//! (docs/LAB_REFERENCE.md, "Kept results").
+#![tactic(auto)]
+
+mod hex;
+mod lines;
+mod row_values;
+mod row_words;
+mod sealed;
+mod written;
+
+pub use hex::{checksum_of, hex_of};
+pub use lines::{ClassHead, KeptResult, ResultLine, head_line, read_line, result_line};
+pub use row_values::row_checksum;

@@ -1,0 +1,35 @@
+; The two take turns, also if one does not want to enter any more.
+        .slim 1
+        .entry zero
+        .entry one
+        .data 0                 ; the flag of processor 0
+        .data 0                 ; the flag of processor 1
+        .data 0                 ; who came last
+        .data 0                 ; the visits
+        .data 1                 ; how often processor 0 enters
+        .data 2                 ; how often processor 1 enters
+
+; r1: the address of my flag, r2: that of the other one's, r3: my number
+zero:   LIT r1, 0
+        LIT r2, 8
+        LIT r3, 0
+        SKIP ALWAYS, 0, start
+one:    LIT r1, 8
+        LIT r2, 0
+        LIT r3, 1
+start:  LOAD.N r7, r1, 4        ; visits to go
+
+again:  LOAD.N r6, r0, 2        ; whose turn it is
+        SUB.T r0, r6, r3
+        SKIP NE, 0, again
+
+inside: LOAD.N r5, r0, 3        ; in the room
+        ADD r5, r5, 1
+counted: STORE.N r5, r0, 3
+
+        LIT r6, 1
+        SUB r6, r6, r3
+        STORE.N r6, r0, 2       ; it is the turn of the other one
+        SUB.T r7, r7, 1
+        SKIP NE, 0, again
+        QUIT

@@ -1,0 +1,27 @@
+; Each of two streams adds a half. The second one hands its half over by the full bit of ready.
+        .slim 2
+        .entry start
+        .data 0, 0              ; result
+        .data 1                 ; n1
+        .data 2                 ; n2
+        .data 3                 ; n3
+        .data 4                 ; n4
+        .data 0                 ; part
+        .data 0, 0              ; ready
+
+start:  LIT r2, 1
+        RESERVE r3, r2
+        TLIT t1, half
+        CREATE t1, r0
+        LOAD.N r1, r0, 1
+        LOAD.N r2, r0, 2
+        ADD r1, r1, r2
+        LOAD.S r2, r0, 6        ; waits for the other half
+        ADD r1, r1, r2
+        STORE.S r1, r0, 0
+        QUIT
+half:   LOAD.N r1, r0, 3
+        LOAD.N r2, r0, 4
+        ADD r1, r1, r2
+        STORE.S r1, r0, 6
+        QUIT
