@@ -99,15 +99,16 @@ wrong_bodies() {
   done < <(sed -n '/^| wrong body under `edits/,/^$/p' docs/PROMISES.md | grep '`')
 }
 
-# about_crates: crates without a README.md, names in one that are not in the crate's src, and calls that do not stand in
-# the file that it names
+# about_crates: crates without a README.md, names in one that are neither in the crate's src nor a crate's, and calls that
+# do not stand in the file that it names
 about_crates() {
   local crate about word caller line
   for crate in $(sed -n 's/^\([a-z_]*\).*:.*/\1/p' crates.txt); do
     about=crates/$crate/README.md
     [ -e "$about" ] || { echo "$about is not there" && continue; }
     while read -r word; do
-      grep -rqw -- "$word" "crates/$crate/src" || [ -e "crates/$crate/src/$word.rt" ] || echo "$about: no $word in src"
+      grep -rqw -- "$word" "crates/$crate/src" || [ -e "crates/$crate/src/$word.rt" ] || grep -q "^$word[ :]" crates.txt ||
+        echo "$about: no $word in src"
     done < <(sed '/^```/,/^```/d' "$about" | grep -oE '`[A-Za-z_]+(::[A-Za-z_]+)?`' | tr -d '`' | sed 's/::/\n/' | sort -u)
     caller=$(sed -n 's/^A caller, in `\(.*\)`:$/\1/p' "$about")
     while read -r line; do

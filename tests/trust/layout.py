@@ -23,6 +23,26 @@ def spec_files(crate):
     return [file for file in named if os.path.exists(file)] + others
 
 
+@functools.lru_cache(maxsize=None)
+def passed_on(file):
+    """The modules that a file of specs/ passes on, each by its name there."""
+    if not os.path.exists(file):
+        return {}
+    with open(file, encoding="utf-8") as text:
+        return {path.rsplit(".", 1)[1]: path for path in re.findall(r"^pub use (Rattle[\w.]+)$", text.read(), re.M)}
+
+
+def origin(path):
+    """The path of a module or definition in the crate whose own it is, where others pass it on."""
+    parts = path.split(".")
+    while len(parts) > 4 and parts[1] in CRATES and parts[2] == "specs":
+        passed = passed_on(f"crates/{parts[1]}/specs/{parts[3]}.antt")
+        if parts[4] not in passed:
+            break
+        parts = passed[parts[4]].split(".") + parts[5:]
+    return ".".join(parts)
+
+
 def all_spec_files():
     return [file for crate in CRATES for file in spec_files(crate)]
 

@@ -137,6 +137,16 @@ def module_file(crate, parts):
     return f"crates/{crate}/src/{'/'.join(parts)}.rt" if parts else root_file(crate)
 
 
+def origin(path):
+    """The path of an item in the crate whose own it is, where others pass that crate on."""
+    while len(path) > 2 and path[0] in layout.CRATES:
+        passed = source(root_file(path[0])).given.get(path[1], ("",))
+        if passed[0] not in layout.CRATES:
+            break
+        path = [*passed, *path[2:]]
+    return path
+
+
 def find(file, name, seen=()):
     """The type or trait that a name stands for in a file of src; None where it is the kit's, or no item."""
     here = source(file)
@@ -144,7 +154,7 @@ def find(file, name, seen=()):
         return here.items[name]
     if name not in here.brought or (file, name) in seen:
         return None
-    path = list(here.brought[name])
+    path = origin(list(here.brought[name]))
     crate, folder = layout.crate_of(file), file.split("/")[3:-1]
     stem = os.path.basename(file)[:-3]
     if path[0] == "crate":

@@ -3,6 +3,8 @@
 import functools
 import re
 
+import layout
+
 # a line that begins a definition; a law that is not public has no word before its name
 HEAD = re.compile(r"(?:(?:abbrev|unfoldable) )?pub (?:(record|data) )?(\S+)|([^\s()]+) :(?: |$)")
 USE = re.compile(r"use ([\w.]+?)(?:\.\{(.*)\})?(?: as (\w+))?$")
@@ -28,6 +30,7 @@ class Names:
         self.paths, self.modules = {}, {}
         for use in uses:
             path, names, alias = USE.match(use).groups()
+            path = layout.origin(path)
             if names is None:
                 self.modules[alias or path.rsplit(".", 1)[-1]] = path
             for name in (names or "").split(","):
@@ -152,7 +155,6 @@ def is_pattern(path):
 
 def file_of(path):
     """The file in specs/ of a path Rattle.CRATE.specs.NAME; None where it is the kit's, or a type of src."""
-    import layout
     parts = path.split(".")
     if len(parts) < 4 or parts[0] != "Rattle" or parts[1] not in layout.CRATES or parts[3] == "declared":
         return None

@@ -5,8 +5,8 @@ use Rattle.std.proofs.Common.{List, [], ◌∷◌, length}
 use Rattle.image_file.specs.ImageValue.{ImageValue}
 use Rattle.processor.specs.World.{World, after, steps}
 use Rattle.processor.specs.declared.steps.Step.{Step}
-use Rattle.local_steps.specs.FreeSteps.{IsFreeStep}
-use Rattle.local_steps.proofs.Free.{commutes, stays}
+use Rattle.same_futures.specs.LocalSteps.FreeSteps.{IsFreeStep}
+use Rattle.same_futures.proofs.LocalSteps.Free.{commutes, stays}
 use Rattle.agreeing_ends.specs.Followed.{FoundWorlds, IsTaken}
 use Rattle.agreeing_ends.specs.Unseen.{AreOthers, IsMoving, IsRespected, AllFollowedUnseen, HoldsOfFound, HoldsWherever}
 use Rattle.agreeing_ends.proofs.Moving.{IsMoved, same_step}

@@ -3,9 +3,9 @@ use Rattle.std.proofs.Common.{◌≡◌, ◌≢◌, ◌⊎◌, inl, inr, suc, re
 use Rattle.image_file.specs.ImageValue.{ImageValue}
 use Rattle.processor.specs.World.{World, after, steps}
 use Rattle.processor.specs.declared.steps.Step.{Step}
-use Rattle.local_steps.specs.FreeSteps.{IsFreeStep}
-use Rattle.local_steps.proofs.Orders.{same_or_other}
-use Rattle.local_steps.proofs.Free.{commutes, stays, not_stuck, runs}
+use Rattle.same_futures.specs.LocalSteps.FreeSteps.{IsFreeStep}
+use Rattle.same_futures.proofs.LocalSteps.Orders.{same_or_other}
+use Rattle.same_futures.proofs.LocalSteps.Free.{commutes, stays, not_stuck, runs}
 use Rattle.agreeing_ends.specs.Followed.{IsEnd}
 
 pub same_step : (t u : Step) → (t ≡ u) ⊎ (t ≢ u)

@@ -4,7 +4,7 @@ use Rattle.std.proofs.Common.{List, [], ◌∷◌, ◌++◌, length}
 use Rattle.processor.specs.World.{World, after, steps}
 use Rattle.processor.specs.declared.steps.Step.{Step}
 use Rattle.processor.proofs.Histories.{steps-append}
-use Rattle.end_kinds.specs.declared.kinds.EndKind.TheVariants as kind
+use Rattle.same_futures.specs.EndKindsTypes.EndKind.TheVariants as kind
 use Rattle.same_futures.specs.Links.{TellsHandlers, WorldsAgree}
 use Rattle.same_futures.specs.Agreeing.{EndAlike}
 use Rattle.same_futures.proofs.Chains.{agree_itself, agree_next, agree_back, schedules_agree}

@@ -5,7 +5,7 @@ use Rattle.image_file.specs.ImageValue.{ImageValue}
 use Rattle.processor.specs.World.{World, after, steps}
 use Rattle.processor.specs.declared.steps.Step.{Step}
 use Rattle.waiting.specs.Stuck.{SomeRuns, IsStandstill}
-use Rattle.local_steps.specs.FreeSteps.{IsFreeStep}
+use Rattle.same_futures.specs.LocalSteps.FreeSteps.{IsFreeStep}
 use Rattle.program_flow.specs.Agreeing.{TellsFlow}
 use Rattle.same_futures.specs.Links.{TellsHandlers}
 

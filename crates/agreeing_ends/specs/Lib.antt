@@ -1,3 +1,5 @@
 -- What public contracts promise: when worlds that were found stand for all that schedules lead to, or for all ends.
 pub mod Followed
 pub mod Unseen
+pub mod SameFutures
+pub mod LocalSteps

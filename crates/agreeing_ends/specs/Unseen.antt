@@ -4,7 +4,7 @@ use Rattle.std.specs.Prelude.{ℕ, ◌<◌, ◌≢◌, ◌⊎◌, ⊤, List, [],
 use Rattle.image_file.specs.ImageValue.{ImageValue}
 use Rattle.processor.specs.World.{World, after, steps}
 use Rattle.processor.specs.declared.steps.Step.{Step}
-use Rattle.local_steps.specs.FreeSteps.{IsFreeStep}
+use Rattle.same_futures.specs.LocalSteps.FreeSteps.{IsFreeStep}
 use Rattle.agreeing_ends.specs.Followed.{FoundWorlds, IsTaken, IsExpanded, world_after}
 
 -- Worlds that are alike still are behind the same schedule, where one of them was found.

@@ -4,3 +4,7 @@ mod Cycles
 mod Told
 mod Growing
 mod First
+pub mod ScheduleSpace
+pub mod AgreeingEnds
+pub mod DeadRegisters
+pub mod SameFutures

@@ -3,3 +3,8 @@ pub mod Busy
 pub mod BusySpaces
 -- Cited by private contracts alone.
 pub mod OwnCycles
+pub mod ScheduleSpace
+pub mod ScheduleSpaceTypes
+pub mod AgreeingEnds
+pub mod DeadRegisters
+pub mod SameFutures

@@ -5,3 +5,4 @@ mod busy_worlds;
 mod stream_cycles;
 
 pub use busy_worlds::{Busy, first_busy};
+pub use schedule_space as space;

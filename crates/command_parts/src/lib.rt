@@ -24,6 +24,7 @@ pub use image_machines::loaded;
 pub use inputs::Inputs;
 pub use json_lines::push_object;
 pub use lab_fault::LabFault;
+pub use lab_texts as texts;
 pub use links::LinkOut;
 pub use loose_schedules::check_loose_schedule;
 pub use names_in_folders::{folder_names, slash_after};

@@ -6,3 +6,5 @@ mod right_ends;
 
 pub use goals::EndGoal;
 pub use right_ends::{EndCriteria, is_right_end};
+pub use space_ends as ends_of_space;
+pub use space_ends::states;

@@ -7,8 +7,8 @@ ghost use Rattle.expectation_files.specs.Seen.{requirements_seen};
 ghost use Rattle.end_goals.specs.RightEnds.{verdict_of, is_right_end, is_met, is_resting, is_breaking, breaks_at, breaks_claim};
 
 use end_kinds::EndKind;
-use end_states::EndJudgement;
 use expectation_files::Requirements;
+use space_ends::states::EndJudgement;
 use space_ends::{SpaceEnd, SpaceEndKind};
 
 /// What decides besides the ends themselves whether they are right.

@@ -4,11 +4,11 @@ use Rattle.std.proofs.Common.{Option, Some, None, List, [], ◌∷◌, length, g
 use Rattle.std.proofs.Common.{nat_lt, if◌then◌else◌, zero, suc}
 use Rattle.std.proofs.lemmas.Bool.{ltb-false}
 use Rattle.std.proofs.lemmas.Option.{slice_get_within}
-use Rattle.stream_core.specs.Streams.{StreamValue, idle}
-use Rattle.processor.specs.Processors.{ProcessorValue, stream_at}
-use Rattle.processor.specs.World.{World, stream_of, stream_seen_at}
-use Rattle.processor.specs.declared.steps.Step.{Step}
-use Rattle.machine.specs.MachineValue.{MachineValue, IsMachine}
+use Rattle.waiting.specs.StreamCore.Streams.{StreamValue, idle}
+use Rattle.waiting.specs.Processor.Processors.{ProcessorValue, stream_at}
+use Rattle.waiting.specs.Processor.World.{World, stream_of, stream_seen_at}
+use Rattle.waiting.specs.ProcessorTypes.Step.{Step}
+use Rattle.waiting.specs.Machine.MachineValue.{MachineValue, IsMachine}
 use Rattle.waiting.specs.Running.{streams_at}
 use Rattle.waiting.proofs.Standing.{few_streams}
 use Rattle.end_kinds.specs.Ends.{stopped_at, stopped_in, SomeStopped}

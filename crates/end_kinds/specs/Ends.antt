@@ -1,11 +1,11 @@
 -- Which kind of end a world is.
 use Rattle.std.specs.Prelude.{Bool, true, false, Option, Some, None, slice_get, IsTrue}
-use Rattle.image_file.specs.ImageValue.{ImageValue}
-use Rattle.stream_core.specs.Streams.{StreamValue}
-use Rattle.stream_core.specs.declared.steps.Status.{Status}
-use Rattle.stream_core.specs.declared.steps.Status.TheVariants.{Idle, Running, Stopped}
-use Rattle.processor.specs.World.{World}
-use Rattle.processor.specs.declared.steps.Step.{Step}
+use Rattle.waiting.specs.ImageFile.ImageValue.{ImageValue}
+use Rattle.waiting.specs.StreamCore.Streams.{StreamValue}
+use Rattle.waiting.specs.StreamCoreTypes.Status.{Status}
+use Rattle.waiting.specs.StreamCoreTypes.Status.TheVariants.{Idle, Running, Stopped}
+use Rattle.waiting.specs.Processor.World.{World}
+use Rattle.waiting.specs.ProcessorTypes.Step.{Step}
 use Rattle.waiting.specs.Running.{streams_at}
 use Rattle.waiting.specs.Stuck.{SomeRuns, IsStandstill}
 use Rattle.end_kinds.specs.declared.kinds.EndKind.{EndKind}

@@ -4,8 +4,8 @@ ghost use Rattle.std.specs.Prelude.{◌≡◌, ◌↔◌, IsTrue};
 ghost use Rattle.end_kinds.specs.Ends.{stopped_in, is_stopped_status, SomeStopped, IsKindOf};
 
 use crate::kinds::EndKind;
-use machine::Machine;
-use stream_core::Status;
+use waiting::machines::Machine;
+use waiting::streams::Status;
 use waiting::{is_standstill, some_run};
 
 /// Which kind of end the world of a machine is, if no step follows. Never `Spinning`, which no world shows by itself.

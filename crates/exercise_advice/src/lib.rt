@@ -12,6 +12,8 @@ mod run_observations;
 
 pub use choosing::first_fitting;
 pub use facts::{SoughtFact, SoughtOperation, Suffix};
+pub use judgements as judges;
+pub use judgements::searches;
 pub use lines::{AdviceFault, AdviceFaultKind, AdviceLine};
 pub use observations::{Observation, ObservationKind};
 pub use observing::{ShownMistake, observations_of};

@@ -2,12 +2,12 @@
 
 use crate::observations::{Observation, ObservationKind};
 use crate::run_observations::push_run;
-use end_states::EndState;
 use expectation_files::Requirements;
 use expectations::Expectation;
 use image_file::Image;
 use image_machines::by_room;
 use insn_word::{Insn, MemoryOp, decode_as};
+use judgements::states::EndState;
 use judgements::{CaseJudgement, MissedLine, Reason};
 use processor::Step;
 use std::alloc::{AllocError, Global};

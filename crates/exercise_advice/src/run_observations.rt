@@ -2,10 +2,10 @@
 
 use crate::observations::{Observation, ObservationKind};
 use crate::observing::ShownMistake;
-use end_states::EndState;
 use expectations::FullEmpty;
 use image_machines::loaded;
 use insn_word::{Insn, decode_as};
+use judgements::states::EndState;
 use machine::Machine;
 use processor::Step;
 use run_findings::{Action, Deed, Findings};

@@ -1,8 +1,8 @@
 //! What is wrong with a line of a file of expectations, in words.
 
+use command_parts::texts::ProgramNames;
 use expectation_files::{LineFaultKind, LineForm};
 use image_file::Image;
-use lab_texts::ProgramNames;
 use std::alloc::{AllocError, Global};
 
 /// The words with which lines begin.

@@ -6,6 +6,7 @@ mod fault_texts;
 mod messages;
 mod reading;
 
+pub use command_parts as parts;
 pub use fault_texts::fault_words;
 pub use messages::check_expectations;
 pub use reading::{file_fault, requirements_of};

@@ -2,13 +2,13 @@
 
 use crate::fault_texts::fault_words;
 use command_parts::Program;
+use command_parts::texts::ProgramNames;
 use expectation_files::{
     FileFault, KnownNames, LineFault, file_faults, form_faults, line_of, widest_image, word_of,
     word_span,
 };
 use fault_messages::{MOST_FOUND, Message, Severity, Spot};
 use image_file::Image;
-use lab_texts::ProgramNames;
 use source_places::SourcePlaces;
 use std::alloc::{AllocError, Global};
 

@@ -1,10 +1,10 @@
 //! Files of expectations, read for a command.
 
 use crate::messages::{EMPTY, LineBegin, message_on};
+use command_parts::texts::ProgramNames;
 use command_parts::{LabFault, Program};
 use expectation_files::{FileFault, KnownNames, Requirements, read_requirements};
 use fault_messages::push_message;
-use lab_texts::ProgramNames;
 use plain_text::plain;
 use source_places::SourcePlaces;
 use std::alloc::{AllocError, Global};

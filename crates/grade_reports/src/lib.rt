@@ -18,6 +18,8 @@ mod tsv_report;
 
 pub use case_scores::{earned_points, score_of};
 pub use feedback::{StudentFile, feedback_of};
+pub use judgements as judges;
+pub use judgements::{outcomes, searches};
 pub use reasons::reason_of;
 pub use reports::{ReportForm, ReportedRow, head_of, lines_of, report_of};
 pub use rows::{CaseRow, CountedEnd, GradeRow, ReportLine, SourcePosition};

@@ -1,6 +1,6 @@
 -- No end shows any flaw where none shows each.
 use Rattle.std.proofs.Common.{List}
-use Rattle.space_ends.specs.declared.end_values.SpaceEnd.{SpaceEnd}
+use Rattle.seed_outcomes.specs.SpaceEndsTypes.SpaceEnd.{SpaceEnd}
 use Rattle.judgements.specs.Flaws.{NoneShows, ShowNothing}
 use Rattle.judgements.specs.declared.end_flaws.EndFlaw.TheVariants as flaw
 

@@ -2,10 +2,10 @@
 use Rattle.std.proofs.Common.{◌≡◌, List, inr, refl}
 use Rattle.image_file.specs.ImageValue.{ImageValue}
 use Rattle.expectation_files.specs.declared.requirements.Requirements.{Requirements}
-use Rattle.seed_verdicts.specs.declared.run_flaw.Seeds.{Seeds}
-use Rattle.seed_verdicts.specs.declared.run_flaw.RunFlaw.{RunFlaw}
-use Rattle.seed_verdicts.specs.declared.run_flaw.RunFlaw.TheVariants as run_flaw
-use Rattle.space_ends.specs.declared.end_values.SpaceEnd.{SpaceEnd}
+use Rattle.seed_outcomes.specs.SeedVerdictsTypes.Seeds.{Seeds}
+use Rattle.seed_outcomes.specs.SeedVerdictsTypes.RunFlaw.{RunFlaw}
+use Rattle.seed_outcomes.specs.SeedVerdictsTypes.RunFlaw.TheVariants as run_flaw
+use Rattle.seed_outcomes.specs.SpaceEndsTypes.SpaceEnd.{SpaceEnd}
 use Rattle.judgements.specs.Flaws.{kind_of_run, kind_of_end}
 use Rattle.judgements.specs.Shown.{IsShownFor}
 use Rattle.judgements.specs.declared.case_judgements.Reason.{Reason}

@@ -1,7 +1,7 @@
 -- The most severe of the first so many judgements.
 use Rattle.std.proofs.Common.{◌≡◌, ◌∙◌, ◌+◌, ◌<◌, ◌≤◌, ℕ, List, Some, slice_get, sym, subst, arith}
 use Rattle.std.proofs.lemmas.Option.{same_Some}
-use Rattle.schedule_verdicts.proofs.Every.{below_more}
+use Rattle.seed_outcomes.proofs.ScheduleVerdicts.Every.{below_more}
 use Rattle.judgements.specs.Severity.{severity_of}
 use Rattle.judgements.specs.declared.case_judgements.CaseJudgement.{CaseJudgement}
 

@@ -10,7 +10,7 @@ use Rattle.expectation_files.specs.declared.requirements.Requirements.{Requireme
 use Rattle.case_cells.specs.NamedWords.{places_by_name, given_cells}
 use Rattle.case_cells.specs.declared.named_words.WordPlaces.{WordPlaces}
 use Rattle.case_cells.specs.SpokenWords.{spoken_words, first_other}
-use Rattle.seed_verdicts.specs.declared.run_flaw.Seeds.{Seeds}
+use Rattle.seed_outcomes.specs.SeedVerdictsTypes.Seeds.{Seeds}
 use Rattle.judgements.specs.declared.cases.Case.{Case}
 use Rattle.judgements.specs.declared.cases.AskedJudging.{AskedJudging}
 

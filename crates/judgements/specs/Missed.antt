@@ -2,11 +2,11 @@
 use Rattle.std.specs.Prelude.{ℕ, List, Option, Some, None, slice_get}
 use Rattle.end_kinds.specs.declared.kinds.EndKind.{EndKind}
 use Rattle.end_kinds.specs.declared.kinds.EndKind.TheVariants as kind
-use Rattle.space_ends.specs.declared.end_values.SpaceEnd.{SpaceEnd}
-use Rattle.space_ends.specs.declared.end_values.SpaceEndKind.{SpaceEndKind}
-use Rattle.space_ends.specs.declared.end_values.SpaceEndKind.TheVariants as space_end
-use Rattle.seed_verdicts.specs.declared.run_flaw.RunFlaw.{RunFlaw}
-use Rattle.seed_verdicts.specs.declared.run_flaw.RunFlaw.TheVariants as run_flaw
+use Rattle.seed_outcomes.specs.SpaceEndsTypes.SpaceEnd.{SpaceEnd}
+use Rattle.seed_outcomes.specs.SpaceEndsTypes.SpaceEndKind.{SpaceEndKind}
+use Rattle.seed_outcomes.specs.SpaceEndsTypes.SpaceEndKind.TheVariants as space_end
+use Rattle.seed_outcomes.specs.SeedVerdictsTypes.RunFlaw.{RunFlaw}
+use Rattle.seed_outcomes.specs.SeedVerdictsTypes.RunFlaw.TheVariants as run_flaw
 use Rattle.judgements.specs.declared.case_judgements.MissedLine.{MissedLine}
 use Rattle.judgements.specs.declared.case_judgements.MissedLine.TheVariants as line
 use Rattle.judgements.specs.declared.case_judgements.Reason.{Reason}

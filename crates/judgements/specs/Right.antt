@@ -5,10 +5,10 @@ use Rattle.lab_requests.specs.declared.requests.Bounds.{Bounds}
 use Rattle.expectation_files.specs.Judged.{IsJudged}
 use Rattle.expectation_files.specs.Seen.{requirements_seen}
 use Rattle.expectation_files.specs.declared.requirements.Requirements.{Requirements}
-use Rattle.schedule_verdicts.specs.ShownClaims.{IsRightThroughout}
-use Rattle.seed_verdicts.specs.Seeds.{AreJudged}
-use Rattle.seed_verdicts.specs.ShownBySeeds.{AreShownBySeeds}
-use Rattle.seed_verdicts.specs.declared.run_flaw.Seeds.{Seeds}
+use Rattle.seed_outcomes.specs.ScheduleVerdicts.ShownClaims.{IsRightThroughout}
+use Rattle.seed_outcomes.specs.SeedVerdicts.Seeds.{AreJudged}
+use Rattle.seed_outcomes.specs.SeedVerdicts.ShownBySeeds.{AreShownBySeeds}
+use Rattle.seed_outcomes.specs.SeedVerdictsTypes.Seeds.{Seeds}
 use Rattle.judgements.specs.Cases.{program_by, said_by, seeds_of, SpeaksOfGivenIn}
 use Rattle.judgements.specs.declared.cases.Case.{Case}
 use Rattle.judgements.specs.declared.cases.AskedJudging.{AskedJudging}

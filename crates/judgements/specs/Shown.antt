@@ -7,10 +7,10 @@ use Rattle.expectation_files.specs.Seen.{requirements_seen}
 use Rattle.expectation_files.specs.declared.faults.FileFault.TheVariants as file
 use Rattle.expectation_files.specs.declared.faults.LineFault.{LineFault}
 use Rattle.expectation_files.specs.declared.requirements.Requirements.{Requirements}
-use Rattle.seed_verdicts.specs.Seeds.{AreJudged}
-use Rattle.seed_verdicts.specs.ShownBySeeds.{IsUnshownBySeeds}
-use Rattle.seed_verdicts.specs.declared.run_flaw.Seeds.{Seeds}
-use Rattle.space_ends.specs.declared.end_values.SpaceEnd.{SpaceEnd}
+use Rattle.seed_outcomes.specs.SeedVerdicts.Seeds.{AreJudged}
+use Rattle.seed_outcomes.specs.SeedVerdicts.ShownBySeeds.{IsUnshownBySeeds}
+use Rattle.seed_outcomes.specs.SeedVerdictsTypes.Seeds.{Seeds}
+use Rattle.seed_outcomes.specs.SpaceEndsTypes.SpaceEnd.{SpaceEnd}
 use Rattle.case_cells.specs.NamedWords.{name_lacking}
 use Rattle.judgements.specs.Cases.{program_by, said_by, seeds_of}
 use Rattle.judgements.specs.Flaws.{kind_of_run, kind_of_end, ShowsAt}

@@ -3,7 +3,7 @@
 ghost use Rattle.std.specs.Prelude.{◌≡◌, IsTrue, IfOk};
 ghost use Rattle.image_file.specs.ImageValue.{ImageValue};
 ghost use Rattle.expectation_files.specs.declared.requirements.Requirements.{Requirements};
-ghost use Rattle.seed_verdicts.specs.declared.run_flaw.Seeds.{Seeds};
+ghost use Rattle.seed_outcomes.specs.SeedVerdictsTypes.Seeds.{Seeds};
 ghost use Rattle.judgements.specs.Cases.{seeds_of};
 ghost use Rattle.judgements.specs.Right.{IsRightBySchedules};
 ghost use Rattle.judgements.specs.Shown.{IsShownBy, IsShownFor};

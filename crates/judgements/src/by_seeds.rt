@@ -1,7 +1,7 @@
 //! What random schedules say of a submission.
 
 ghost use Rattle.std.specs.Prelude.{◌≡◌, IfOk};
-ghost use Rattle.seed_verdicts.specs.Seeds.{AreJudged};
+ghost use Rattle.seed_outcomes.specs.SeedVerdicts.Seeds.{AreJudged};
 ghost use Rattle.judgements.specs.Cases.{seeds_of};
 ghost use Rattle.judgements.specs.Flaws.{kind_of_run};
 ghost use Rattle.judgements.specs.Right.{IsRightBySeeds};
@@ -11,14 +11,14 @@ use crate::case_judgements::{CaseJudgement, Reason, ShownRun};
 use crate::cases::AskedJudging;
 use crate::knowledge::Known;
 use crate::verdict_kinds::VerdictKind;
-use end_states::{JudgedEnd, judged_end};
 use expectation_files::Requirements;
 use image_file::Image;
 use image_machines::{by_room, loaded};
 use machine::LoadFault;
 use schedule_makers::{fair_length, seeded};
+use seed_outcomes::seeds::{RunFlaw, SeedFlaw, Seeds, first_flaw, first_flaw_alone};
+use seed_outcomes::states::{JudgedEnd, judged_end};
 use seed_outcomes::{SeedOutcome, SurveySeeds, outcomes_of, unshown_by_seeds, worst_status};
-use seed_verdicts::{RunFlaw, SeedFlaw, Seeds, first_flaw, first_flaw_alone};
 use std::alloc::{AllocError, Global};
 use std::thread::Threads;
 

@@ -6,12 +6,12 @@ ghost use Rattle.judgements.specs.Missed.{expectation_at, missed_at_end, missed_
 use crate::knowledge::Known;
 use crate::verdict_kinds::VerdictKind;
 use end_kinds::{EndKind, Status};
-use end_states::JudgedEnd;
 use expectation_files::LineFault;
 use processor::Step;
 use seed_outcomes::SeedOutcome;
-use seed_verdicts::RunFlaw;
-use space_ends::{SpaceEnd, SpaceEndKind};
+use seed_outcomes::ends_of_space::{SpaceEnd, SpaceEndKind};
+use seed_outcomes::seeds::RunFlaw;
+use seed_outcomes::states::JudgedEnd;
 use std::alloc::{AllocError, Global};
 
 /// The run of a seed that is not right.

@@ -6,7 +6,7 @@ ghost use Rattle.judgements.specs.Flaws.{NoneShows, ShowNothing, ShowsAt};
 
 use crate::verdict_kinds::VerdictKind;
 use end_kinds::EndKind;
-use space_ends::{SpaceEnd, SpaceEndKind};
+use seed_outcomes::ends_of_space::{SpaceEnd, SpaceEndKind};
 
 /// What an end of a submission can show against it.
 #[derive(Clone, Copy, Debug, PartialEq, Eq)]

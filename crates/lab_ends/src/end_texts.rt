@@ -1,11 +1,11 @@
 //! What an end shows, in words.
 
 use changed_words::ChangedWord;
-use end_states::{EndState, TrapStop};
 use image_file::Image;
 use lab_texts::{
     Notation, ProgramNames, RunPieces, TextWriter, full_word, push_changed_words, put_part_of,
 };
+use space_ends::states::{EndState, TrapStop};
 use std::alloc::{AllocError, Global};
 use tag_memory::Word;
 

@@ -9,6 +9,8 @@ mod space_texts;
 
 pub use end_texts::state_text;
 pub use findings::{RunFindings, first_finding, push_findings_of_run};
+pub use space_ends as ends_of_space;
+pub use space_ends::space;
 pub use space_texts::{
     BrokenLine, EndWords, broken_line, text_of_end, words_of_end, words_of_ends,
 };

@@ -1,13 +1,13 @@
 //! Which sentence of an exercise's advice is said, and what is wrong with a file of advice.
 
 use crate::judging::{Judgement, THOROUGH};
-use command_parts::{LabFault, made_by};
+use exercise_advice::judges::Witness;
 use exercise_advice::{
     AdviceFault, AdviceFaultKind, AdviceLine, ShownMistake, first_fitting, observations_of,
     read_advice,
 };
 use image_file::Image;
-use judgements::Witness;
+use lab_grades::parts::{LabFault, made_by};
 use lab_requests::Maker;
 use plain_text::plain;
 use processor::Step;

@@ -1,6 +1,6 @@
 //! The exercises of a folder.
 
-use command_parts::{Inputs, LabFault, folder_names, slash_after};
+use lab_grades::parts::{Inputs, LabFault, folder_names, slash_after};
 use plain_text::plain;
 use std::alloc::{AllocError, Global};
 use std::io::Read;

@@ -1,12 +1,12 @@
 //! What `grade` says of the program of an exercise.
 
 use crate::folders::Exercise;
-use command_parts::{Inputs, LabFault};
-use grade_reports::{GradeRow, reason_of};
-use judgements::VerdictKind;
+use exercise_advice::judges::VerdictKind;
+use exercise_advice::searches::Console;
+use lab_grades::parts::{Inputs, LabFault};
+use lab_grades::reports::{GradeRow, reason_of};
 use lab_grades::{DecidedByCase, judged_alone};
 use lab_requests::{Bounds, GradeCases, GradeFormat, GradeRequest, Undecided};
-use program_searches::Console;
 use std::alloc::Global;
 use std::io::{Read, Write};
 use std::rt::Files;

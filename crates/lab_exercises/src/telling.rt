@@ -2,8 +2,8 @@
 
 use crate::folders::Exercise;
 use crate::judging::Judgement;
-use grade_reports::GradeRow;
-use judgements::Witness;
+use exercise_advice::judges::Witness;
+use lab_grades::reports::GradeRow;
 use plain_text::{plain, push_plain};
 use schedule_turns::turns_of;
 use std::alloc::{AllocError, Global};

@@ -3,7 +3,7 @@
 use crate::end_pages::FoundProgram;
 use command_parts::{Inputs, LabFault};
 use lab_requests::ExploreRequest;
-use space_ends::SpaceEnd;
+use space_graphs::ends_of_space::SpaceEnd;
 use std::alloc::Global;
 use std::io::Read;
 use std::rt::Files;

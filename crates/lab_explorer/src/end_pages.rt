@@ -2,12 +2,12 @@
 
 use command_parts::{Inputs, LabFault, Program};
 use expectation_files::Requirements;
-use lab_ends::broken_line;
 use plain_text::stem_of;
-use program_searches::Explored;
 use replay_page::{MOST_STEPS, RunNames, RunVerdict, page_of_run};
 use search_texts::push_expected;
-use space_ends::SpaceEnd;
+use search_texts::searches::Explored;
+use space_graphs::ends_in_words::broken_line;
+use space_graphs::ends_of_space::SpaceEnd;
 use std::alloc::{AllocError, Global};
 use std::io::Read;
 use std::rt::Files;

@@ -4,10 +4,10 @@ use command_parts::push_object;
 use image_file::Image;
 use lab_json::{Fields, List, Object, object_of, put_run, stream_value, turns_value};
 use processor::Step;
-use program_searches::Explored;
+use search_texts::searches::Explored;
 use search_texts::{ExpectedLines, bound_value};
 use serde_json::Value;
-use space_ends::SpaceEnd;
+use space_graphs::ends_of_space::SpaceEnd;
 use std::alloc::{AllocError, Global};
 
 /// Adds the objects of a search among the schedules of an image: how much was found, and each end.

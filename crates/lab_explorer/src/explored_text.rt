@@ -5,15 +5,15 @@ use command_parts::CommandAnswer;
 use end_kinds::EndKind;
 use expectation_files::Requirements;
 use image_file::Image;
-use lab_ends::{EndWords, words_of_ends};
 use lab_texts::Notation;
 use plain_text::{plural, push_plain};
-use program_searches::Explored;
 use schedule_turns::turns_of;
+use search_texts::searches::Explored;
 use search_texts::{
     EndCells, EndColumns, ExpectedLines, end_line, push_expected, push_unkept, push_unkept_objects,
 };
-use space_ends::{SpaceEnd, SpaceEndKind};
+use space_graphs::ends_in_words::{EndWords, words_of_ends};
+use space_graphs::ends_of_space::{SpaceEnd, SpaceEndKind};
 use std::alloc::{AllocError, Global};
 
 /// The most turns of a schedule that are shown with a claim that it breaks.

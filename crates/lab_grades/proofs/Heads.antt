@@ -1,8 +1,8 @@
 -- What rows begin with, one after the other.
 use Rattle.std.proofs.Common.{◌≡◌, ◌∙◌, ◌<◌, List, [], ◌∷◌, ◌++◌, length, sym, arith, append-nil}
 use Rattle.lab_grades.specs.Rows.{CaseHead, heads_of}
-use Rattle.judgements.specs.declared.cases.Case.{Case}
-use Rattle.judgements.specs.declared.case_judgements.CaseJudgement.{CaseJudgement}
+use Rattle.result_lines.specs.JudgementsTypes.Case.{Case}
+use Rattle.result_lines.specs.JudgementsTypes.CaseJudgement.{CaseJudgement}
 
 -- no judgement is left
 pub at_end : (cs : List Case) (js : List CaseJudgement) (found all : List CaseHead) → length js < 1

@@ -1,10 +1,10 @@
 -- The rows of the cases of a submission.
 use Rattle.std.specs.Prelude.{ℕ, Bool, List, [], ◌∷◌, map}
 use Rattle.expectation_files.specs.Marks.{marks_in}
-use Rattle.judgements.specs.declared.cases.Case.{Case}
-use Rattle.judgements.specs.declared.case_judgements.CaseJudgement.{CaseJudgement}
-use Rattle.judgements.specs.declared.verdict_kinds.VerdictKind.{VerdictKind}
-use Rattle.grade_reports.specs.declared.rows.CaseRow.{CaseRow}
+use Rattle.result_lines.specs.JudgementsTypes.Case.{Case}
+use Rattle.result_lines.specs.JudgementsTypes.CaseJudgement.{CaseJudgement}
+use Rattle.result_lines.specs.JudgementsTypes.VerdictKind.{VerdictKind}
+use Rattle.result_lines.specs.GradeReportsTypes.CaseRow.{CaseRow}
 
 -- what a row of a case begins with
 pub record CaseHead : Type 0 where

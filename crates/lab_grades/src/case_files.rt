@@ -2,12 +2,12 @@
 
 use asm_text::AsmFault;
 use case_cells::{CellsFault, program_of_cells, read_cells};
-use command_parts::{Inputs, LabFault, folder_names, slash_after};
+use expectation_messages::parts::{Inputs, LabFault, folder_names, slash_after};
 use image_file::Image;
-use judgements::Case;
 use lab_requests::GradeCases;
 use named_files::shown_name;
 use plain_text::plain;
+use result_lines::judges::Case;
 use source_faults::check_source;
 use std::alloc::{AllocError, Global};
 use std::io::Read;

@@ -9,12 +9,12 @@ use crate::judging::Grading;
 use crate::name_words::{add_lacking, add_not_given};
 use crate::report_lines::CaseLines;
 use crate::row_ends::add_ends;
-use command_parts::Program;
 use expectation_files::{Requirements, case_marks};
-use grade_reports::{CaseRow, CountedEnd};
+use expectation_messages::parts::Program;
 use image_file::Image;
-use judgements::{Case, CaseJudgement, Known, Reason, image_by, required_by};
 use lab_texts::{Notation, ProgramNames};
+use result_lines::judges::{Case, CaseJudgement, Known, Reason, image_by, required_by};
+use result_lines::reports::{CaseRow, CountedEnd};
 use std::alloc::{AllocError, Global};
 
 /// The rows of a program by the judgements on it, one a case, in their order. The ends of each case are added, where they are

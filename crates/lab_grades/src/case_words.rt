@@ -1,19 +1,19 @@
 //! What decides a verdict, in words.
 
 use crate::report_lines::{CaseLines, absent_line};
-use command_parts::made_by;
 use expectation_files::{LineFault, LineFaultKind, line_of, word_of};
 use expectation_messages::fault_words;
-use grade_reports::ReportLine;
+use expectation_messages::parts::made_by;
 use image_file::Image;
 use image_machines::by_room;
-use judgements::{Case, CaseJudgement, Reason, ShownRun};
-use lab_ends::{first_finding, state_text, text_of_end};
 use lab_requests::Maker;
 use lab_texts::{Notation, ProgramNames};
 use processor::Step;
+use program_pages::ends_in_words::{first_finding, state_text, text_of_end};
+use program_pages::ends_of_space::SpaceEnd;
+use result_lines::judges::{Case, CaseJudgement, Reason, ShownRun};
+use result_lines::reports::ReportLine;
 use source_places::SourcePlaces;
-use space_ends::SpaceEnd;
 use std::alloc::{AllocError, Global};
 
 /// What decides a judgement by a case, in words.

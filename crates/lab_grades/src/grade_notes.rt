@@ -1,6 +1,6 @@
 //! What is said of submissions beside their rows.
 
-use command_parts::LinkOut;
+use expectation_messages::parts::LinkOut;
 use plain_text::push_plain;
 use std::alloc::{AllocError, Global};
 

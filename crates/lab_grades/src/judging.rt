@@ -2,16 +2,16 @@
 
 use crate::grading::named_cases;
 use crate::rows::{points_of, row_of};
-use command_parts::{LabFault, Program};
 use expectation_messages::file_fault;
-use grade_reports::{GradeRow, ReportForm};
-use judgements::{
-    AskedJudging, Case, JudgeFault, Submission, SubmissionJudgement, image_by, judged_submission,
-};
+use expectation_messages::parts::{LabFault, Program};
 use lab_requests::{Bounds, GradeRequest};
 use lab_texts::NumberStyle;
-use program_searches::{Console, SearchFault, USUAL_MEGABYTES};
-use search_texts::search_fault;
+use program_pages::search_words::search_fault;
+use program_pages::searches::{Console, SearchFault, USUAL_MEGABYTES};
+use result_lines::judges::{
+    AskedJudging, Case, JudgeFault, Submission, SubmissionJudgement, image_by, judged_submission,
+};
+use result_lines::reports::{GradeRow, ReportForm};
 use std::alloc::{AllocError, Global};
 use std::io::Write;
 use std::thread::Threads;

@@ -1,10 +1,10 @@
 //! The file in which the results of a call are kept.
 
 use class_results::{Checksum, ResultBasis};
-use command_parts::{Inputs, LabFault};
-use grade_reports::GradeRow;
-use judgements::VerdictKind;
+use expectation_messages::parts::{Inputs, LabFault};
 use plain_text::push_plain;
+use result_lines::judges::VerdictKind;
+use result_lines::reports::GradeRow;
 use result_lines::{ClassHead, KeptResult, ResultLine, head_line, read_line, result_line};
 use std::alloc::{AllocError, Global};
 use std::collections::HashMap;

@@ -25,5 +25,7 @@ mod submissions;
 mod verdict_pages;
 
 pub use alone::{DecidedByCase, JudgedAlone, judged_alone};
+pub use expectation_messages::parts;
 pub use grading::grade;
 pub use merged_class::merge;
+pub use result_lines::reports;

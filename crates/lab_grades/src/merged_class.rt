@@ -3,11 +3,11 @@
 use crate::grading::{status_of, whole_report};
 use crate::kept_results::{line_in, no_results, note_damaged};
 use class_results::{KeptPlace, MergeFault, class_of, merged_places};
-use command_parts::{CommandAnswer, Inputs, LabFault, Status};
-use grade_reports::{GradeRow, ReportForm, ReportedRow, head_of, lines_of};
+use expectation_messages::parts::{CommandAnswer, Inputs, LabFault, Status};
 use lab_requests::MergeRequest;
 use plain_text::push_plain;
 use printed_lines::Printer;
+use result_lines::reports::{GradeRow, ReportForm, ReportedRow, head_of, lines_of};
 use result_lines::{ClassHead, KeptResult, ResultLine, row_checksum};
 use std::alloc::{AllocError, Global};
 use std::io::{Read, Write};

@@ -2,9 +2,9 @@
 
 use crate::judging::Grading;
 use class_results::Checksum;
-use judgements::Case;
 use lab_requests::Bounds;
 use result_lines::checksum_of;
+use result_lines::judges::Case;
 use std::alloc::{AllocError, Global};
 
 /// The checksum of the options that a row depends on, and of the version of the program.

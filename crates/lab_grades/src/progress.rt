@@ -1,6 +1,6 @@
 //! How far the judging of a class is, on a terminal.
 
-use program_searches::Console;
+use program_pages::searches::Console;
 use std::io::Write;
 use std::time::{Clock, Duration, Instant};
 

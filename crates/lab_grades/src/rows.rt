@@ -5,10 +5,10 @@ ghost use Rattle.lab_grades.specs.Rows.{heads_in, heads_of};
 
 use crate::case_rows::{add_ends_by_case, case_rows, known_as_asked};
 use crate::judging::Grading;
-use command_parts::Program;
 use expectation_files::case_marks;
-use grade_reports::{CaseRow, GradeRow, ReportLine};
-use judgements::{Case, SubmissionJudgement, VerdictKind, Witness};
+use expectation_messages::parts::Program;
+use result_lines::judges::{Case, SubmissionJudgement, VerdictKind, Witness};
+use result_lines::reports::{CaseRow, GradeRow, ReportLine};
 use std::alloc::{AllocError, Global};
 
 /// How many points there are for some cases together.

@@ -3,10 +3,10 @@
 use crate::class_flow::ClassFlow;
 use crate::class_stages::{Desk, Job, Next, Outcome};
 use crate::judging::{Grading, row_on};
-use command_parts::LabFault;
 use crossbeam_channel::{Receiver, Sender, unbounded};
+use expectation_messages::parts::LabFault;
 use lab_requests::GradeRequest;
-use program_searches::{Console, USUAL_MEGABYTES};
+use program_pages::searches::{Console, USUAL_MEGABYTES};
 use rayon::current_num_threads;
 use std::alloc::Global;
 use std::fs::File;

@@ -1,9 +1,11 @@
 //! Submissions, read.
 
-use command_parts::{Inputs, LabFault, LinkOut, Program, ProgramFault, RegularFile, program_in};
+use expectation_messages::parts::{
+    Inputs, LabFault, LinkOut, Program, ProgramFault, RegularFile, program_in,
+};
 use fault_messages::{Message, Severity};
-use grade_reports::{GradeRow, SourcePosition};
-use judgements::VerdictKind;
+use result_lines::judges::VerdictKind;
+use result_lines::reports::{GradeRow, SourcePosition};
 use std::alloc::{AllocError, Global};
 use std::io::Read;
 use std::rt::Files;

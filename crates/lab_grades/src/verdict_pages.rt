@@ -1,15 +1,15 @@
 //! The pages of verdicts: runs that show that submissions are not right.
 
 use crate::judging::{Grading, given_by};
-use command_parts::{LabFault, Program, made_by};
-use grade_reports::{CaseRow, GradeRow, case_for_student};
-use judgements::{Case, Witness, required_by};
+use expectation_messages::parts::{LabFault, Program, made_by};
 use lab_requests::Maker;
 use lab_texts::ProgramNames;
 use processor::Step;
+use program_pages::searches::Console;
 use program_pages::{PlayedProgram, play_page, replay_page};
-use program_searches::Console;
 use replay_page::{RunNames, RunVerdict};
+use result_lines::judges::{Case, Witness, required_by};
+use result_lines::reports::{CaseRow, GradeRow, case_for_student};
 use std::alloc::{AllocError, Global};
 use std::io::Write;
 use std::time::Clock;

@@ -5,12 +5,12 @@ use crate::findings::put_findings;
 use crate::streams::{put_streams, stream_value};
 use crate::values::Object;
 use crate::word_changes::put_words;
+use lab_texts::waiting_streams::StreamWait;
 use lab_texts::{RunEnd, StoppedStream, wanted_word};
 use machine::Machine;
 use processor::Step;
 use serde_json::{Map, Value};
 use std::alloc::{AllocError, Global};
-use stream_waits::StreamWait;
 
 /// The end of a run by these steps, which led the machine to its world: its kind, of whom it is, the words that differ from
 /// the image, and the findings.

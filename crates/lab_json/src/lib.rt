@@ -22,6 +22,7 @@ pub use ends::{end_part, end_value};
 pub use fields::{Fields, object_of, put_number, put_text};
 pub use findings::findings_value;
 pub use heads::{RunTitle, head_value};
+pub use lab_texts as texts;
 pub use lines::line_value;
 pub use places::{content_value, digits, outcome_name, place_name};
 pub use runs::put_run;

@@ -1,6 +1,6 @@
 //! What the commands say that write a page.
 
-use command_parts::{CommandAnswer, LabFault, Status};
+use expectation_messages::parts::{CommandAnswer, LabFault, Status};
 use plain_text::plain;
 use std::alloc::Global;
 

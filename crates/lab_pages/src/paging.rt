@@ -1,7 +1,9 @@
 //! The command `page`.
 
 use crate::answers::page_answer;
-use command_parts::{CommandAnswer, Inputs, LabFault, Program, read_program, steps_of};
+use expectation_messages::parts::{
+    CommandAnswer, Inputs, LabFault, Program, read_program, steps_of,
+};
 use lab_requests::{Maker, PageRequest, RunChoice};
 use plain_text::{file_name, stem_of};
 use processor::Step;

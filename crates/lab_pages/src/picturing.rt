@@ -1,7 +1,7 @@
 //! The command `picture`.
 
 use crate::paging::{RunToShow, program_name, run_to_show, schedule_words};
-use command_parts::{CommandAnswer, Inputs, LabFault};
+use expectation_messages::parts::{CommandAnswer, Inputs, LabFault};
 use image_machines::{by_room, loaded};
 use lab_requests::PageRequest;
 use plain_text::plural;

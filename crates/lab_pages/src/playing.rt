@@ -1,16 +1,18 @@
 //! The command `play`.
 
 use crate::answers::page_answer;
-use command_parts::{CommandAnswer, Inputs, LabFault, Program, read_program, read_steps};
-use end_goals::EndGoal;
 use expectation_files::Requirements;
+use expectation_messages::parts::{
+    CommandAnswer, Inputs, LabFault, Program, read_program, read_steps,
+};
 use expectation_messages::requirements_of;
 use lab_requests::PlayRequest;
 use lab_texts::ProgramNames;
 use plain_text::{plain, stem_of};
 use processor::Step;
+use program_pages::goals::EndGoal;
+use program_pages::searches::Console;
 use program_pages::{PageChoices, PlayPage, PlayedProgram, page_of_schedules};
-use program_searches::Console;
 use std::alloc::{AllocError, Global};
 use std::io::{Read, Write};
 use std::rt::Files;

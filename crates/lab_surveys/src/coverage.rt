@@ -1,9 +1,9 @@
 //! What the search among every schedule adds to a survey.
 
 use crate::survey_objects::{SurveyInput, push_broken_object, push_coverage};
-use lab_ends::{BrokenLine, broken_line};
 use plain_text::plural;
-use program_searches::Explored;
+use search_texts::ends_in_words::{BrokenLine, broken_line};
+use search_texts::searches::Explored;
 use seed_outcomes::{SeedOutcome, is_met, is_reported};
 use std::alloc::{AllocError, Global};
 

@@ -2,11 +2,11 @@
 
 use command_parts::{Program, made_by, push_object};
 use expectation_files::Requirements;
-use lab_ends::BrokenLine;
 use lab_json::{Fields, Object, digits, line_value, object_of, put_run};
 use lab_requests::Maker;
-use program_searches::Explored;
 use rayon::prelude::*;
+use search_texts::ends_in_words::BrokenLine;
+use search_texts::searches::Explored;
 use search_texts::{ExpectedLines, put_bound};
 use seed_outcomes::SeedOutcome;
 use serde_json::Value;

@@ -10,12 +10,12 @@ use lab_requests::{Bounds, SurveyRequest};
 use lab_texts::{Notation, ProgramNames};
 use plain_text::push_plain;
 use program_rules::first_broken;
-use program_searches::{Console, Explored, ProgramSearch, Unkept, explore_program};
+use search_texts::searches::{Console, Explored, ProgramSearch, Unkept, explore_program};
 use search_texts::{
     EndCells, EndColumns, end_line, push_expected, push_unkept, push_unkept_objects, search_fault,
 };
+use seed_outcomes::seeds::Seeds;
 use seed_outcomes::{SeedOutcome, SurveySeeds, outcomes_of, unshown_by_seeds, worst_status};
-use seed_verdicts::Seeds;
 use std::alloc::{AllocError, Global};
 use std::io::{Read, Write};
 use std::rt::Files;

@@ -6,8 +6,8 @@ use crate::run_pieces::RunPieces;
 use crate::values::{NumberStyle, put_content};
 use plain_text::TextWriter;
 use processor::Step;
-use step_views::{Change, Content, Place, StepView, StreamPart};
 use stream_core::{Outcome, Status, StatusWord};
+use stream_waits::views::{Change, Content, Place, StepView, StreamPart};
 use tag_memory::{MemOp, Reply};
 
 /// What stands between two things that a step did.

@@ -9,7 +9,7 @@ use changed_words::ChangedWord;
 use machine::Machine;
 use plain_text::TextWriter;
 use std::alloc::AllocError;
-use step_views::{Change, Place};
+use stream_waits::views::{Change, Place};
 
 /// Adds a line for each word of the memory that is not the image's: what it was, what it is, and the comment of its
 /// line.

@@ -9,8 +9,8 @@ use machine::Machine;
 use plain_text::TextWriter;
 use processor::Step;
 use std::alloc::{AllocError, Global};
-use step_views::StepView;
 use stream_core::{Outcome, Status, TrapKind};
+use stream_waits::views::StepView;
 use stream_waits::{StreamWait, circle_of, waits_of};
 use waiting::running_streams;
 

@@ -30,5 +30,6 @@ pub use step_lines::{
     Columns, push_lane_head, push_lane_text, push_step_head, push_step_line, push_step_number,
     push_step_text, put_step_line,
 };
+pub use stream_waits as waiting_streams;
 pub use values::{NumberStyle, push_stream, push_trap, push_value, push_word, put_word};
 pub use waits::{full_word, turned_word, wanted_word};

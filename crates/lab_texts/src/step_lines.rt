@@ -10,8 +10,8 @@ use machine::Machine;
 use plain_text::TextWriter;
 use processor::Step;
 use std::alloc::AllocError;
-use step_views::{Place, StepView};
 use stream_core::{Outcome, Status, TrapKind};
+use stream_waits::views::{Place, StepView};
 use tag_memory::{MemOp, Reply};
 use waiting::wait_of;
 

@@ -6,8 +6,8 @@ use bitflags::Flags;
 use plain_text::TextWriter;
 use processor::Step;
 use std::alloc::AllocError;
-use step_views::Content;
 use stream_core::{Code, Codes, Status, TrapKind, TrapMask};
+use stream_waits::views::Content;
 use tag_memory::{Tags, Word};
 
 /// How numbers are shown.

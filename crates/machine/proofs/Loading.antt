@@ -2,9 +2,9 @@
 use Rattle.std.proofs.Common.{◌≡◌, ℕ, zero, suc, ◌+◌, ◌<◌, ◌≤◌, sym, ap, ◌∙◌, subst, arith, List, [], ◌∷◌}
 use Rattle.std.proofs.Common.{◌++◌, length, take, get_or, map, slice_index}
 use Rattle.std.proofs.lemmas.List.{length-map, take_more, take_all, map-append}
-use Rattle.image_file.specs.ImageValue.{ImageValue}
-use Rattle.tag_memory.specs.Storage.{TaggedMemory, memory_with_chain}
-use Rattle.tag_memory.specs.Cell.{Cell}
+use Rattle.processor.specs.ImageFile.ImageValue.{ImageValue}
+use Rattle.processor.specs.TagMemory.Storage.{TaggedMemory, memory_with_chain}
+use Rattle.processor.specs.TagMemory.Cell.{Cell}
 use Rattle.processor.specs.World.{start}
 use Rattle.processor.specs.Processors.{ProcessorValue, opening}
 use Rattle.processor.proofs.Opening.{opening-length}

@@ -3,10 +3,10 @@ use Rattle.std.proofs.Common.{◌≡◌, ℕ, zero, suc, ◌+◌, ◌<◌, ◌�
 use Rattle.std.proofs.Common.{◌∷◌, length, drop, get_or, set, slice_get}
 use Rattle.std.proofs.Math.Seq.{drop-cons, drop-nil}
 use Rattle.std.proofs.lemmas.Option.{slice_get_past, slice_get_read}
-use Rattle.tag_memory.specs.Storage.{TaggedMemory}
-use Rattle.image_file.specs.ImageValue.{ImageValue}
-use Rattle.stream_core.specs.declared.steps.Outcome.{Outcome}
-use Rattle.stream_core.specs.declared.steps.Outcome.TheVariants.{Skipped}
+use Rattle.processor.specs.TagMemory.Storage.{TaggedMemory}
+use Rattle.processor.specs.ImageFile.ImageValue.{ImageValue}
+use Rattle.processor.specs.StreamCoreTypes.Outcome.{Outcome}
+use Rattle.processor.specs.StreamCoreTypes.Outcome.TheVariants.{Skipped}
 use Rattle.processor.specs.Processors.{ProcessorValue}
 use Rattle.processor.specs.Row.{row_over_memory}
 use Rattle.processor.specs.World.{World, world_step, after, steps}

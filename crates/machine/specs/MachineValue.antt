@@ -1,7 +1,7 @@
 -- A machine, as contracts see it: the image that it was loaded from, and its world.
 use Rattle.std.specs.Prelude.{◌≡◌, ℕ, ◌≤◌, ◌<◌, List, length, slice_get, slice_index_or, Option, Some, None}
-use Rattle.tag_memory.specs.Storage.{TaggedMemory}
-use Rattle.image_file.specs.ImageValue.{ImageValue}
+use Rattle.processor.specs.TagMemory.Storage.{TaggedMemory}
+use Rattle.processor.specs.ImageFile.ImageValue.{ImageValue}
 use Rattle.processor.specs.Processors.{ProcessorValue}
 use Rattle.processor.specs.Row.{next_of}
 use Rattle.processor.specs.World.{World}

@@ -2,20 +2,20 @@
 
 ghost use Rattle.std.specs.Prelude.{◌≡◌, ◌<◌, ◌≤◌, ◌↔◌, ℕ, Some, slice_get, IfOk};
 ghost use Rattle.std.specs.Option.{option_copied};
-ghost use Rattle.tag_memory.specs.Storage.{cell_at};
-ghost use Rattle.tag_memory.specs.Chain.{end_of};
-ghost use Rattle.tag_memory.specs.Answer.{answer, address_at};
+ghost use Rattle.processor.specs.TagMemory.Storage.{cell_at};
+ghost use Rattle.processor.specs.TagMemory.Chain.{end_of};
+ghost use Rattle.processor.specs.TagMemory.Answer.{answer, address_at};
 ghost use Rattle.processor.specs.Processors.{ProcessorValue, IsCounted};
 ghost use Rattle.processor.specs.World.{start, world_step, steps, stream_of, counts_of};
 ghost use Rattle.machine.specs.MachineValue.{IsMachine, next_in};
 
 use crate::load_fault::LoadFault;
-use image_file::Image;
+use processor::images::Image;
+use processor::memories::{Ending, Memory, Request, Word};
+use processor::streams::{Outcome, Stream};
 use processor::{Next, Processor, Step};
 use std::alloc::{AllocError, Global};
 use std::marker::Model;
-use stream_core::{Outcome, Stream};
-use tag_memory::{Ending, Memory, Request, Word};
 
 /// A machine with room for `S` streams a processor, over the image that it was loaded from ("Machines",
 /// docs/MACHINE.md).

@@ -22,3 +22,6 @@ pub mod StreamRuns
 -- What only the code below the processor cites:
 pub mod FetchForms
 pub mod StreamTables
+pub mod StreamCoreTypes
+pub mod ImageFile
+pub mod TagMemory

@@ -9,7 +9,10 @@ mod recorded_steps;
 mod steps;
 mod stream_table;
 
+pub use image_file as images;
 pub use processors::Processor;
 pub use recorded::Recorded;
 pub use recorded_steps::Steps;
 pub use steps::{Asked, Entry, MAX_STEPS, Next, NextStep, Step};
+pub use stream_core as streams;
+pub use tag_memory as memories;

@@ -9,3 +9,6 @@ mod replays;
 pub use play_pages::{PlayPage, page_of_schedules, play_page};
 pub use played_programs::{PageChoices, PlayedProgram};
 pub use replays::replay_page;
+pub use schedule_page::{ends_of_space, goals, states};
+pub use search_texts as search_words;
+pub use search_texts::{ends_in_words, searches};

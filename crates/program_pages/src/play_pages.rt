@@ -2,15 +2,15 @@
 
 use crate::expected_texts::expected_texts;
 use crate::played_programs::{PageChoices, PlayedProgram};
-use command_parts::LabFault;
-use end_goals::{EndCriteria, EndGoal};
 use image_machines::by_room;
-use lab_ends::words_of_ends;
 use lab_requests::MOST_PLAYED;
 use lab_texts::{Notation, NumberStyle};
-use program_searches::{Console, Explored, SearchBound, explore_program};
+use schedule_page::goals::{EndCriteria, EndGoal};
 use schedule_page::{GraphNames, PageEnds, graph_json, page_of_graph};
+use search_texts::ends_in_words::words_of_ends;
+use search_texts::parts::LabFault;
 use search_texts::search_fault;
+use search_texts::searches::{Console, Explored, SearchBound, explore_program};
 use std::alloc::{AllocError, Global};
 use std::io::Write;
 use std::time::Clock;

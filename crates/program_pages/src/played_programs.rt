@@ -1,12 +1,12 @@
 //! What a page of all schedules is made of.
 
-use command_parts::Program;
-use end_goals::EndGoal;
 use expectation_files::Requirements;
 use lab_requests::Bounds;
 use lab_texts::ProgramNames;
 use processor::Step;
-use program_searches::ProgramSearch;
+use schedule_page::goals::EndGoal;
+use search_texts::parts::Program;
+use search_texts::searches::ProgramSearch;
 
 /// A program, and what its page of all schedules shows.
 #[derive(Clone, Copy)]

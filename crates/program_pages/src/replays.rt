@@ -1,8 +1,8 @@
 //! The page of a program's run.
 
-use command_parts::Program;
 use processor::Step;
-use replay_page::{MOST_STEPS, RunNames, RunVerdict, page_of_run};
+use schedule_page::replay::{MOST_STEPS, RunNames, RunVerdict, page_of_run};
+use search_texts::parts::Program;
 use std::alloc::{AllocError, Global};
 
 /// The page of a program's run by these steps, with how its end was judged; None if they are more than a page shows.

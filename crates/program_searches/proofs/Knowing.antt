@@ -6,17 +6,17 @@ use Rattle.claims.specs.Looking.{is_looked_at}
 use Rattle.claims.specs.declared.claim.Claim.{Claim}
 use Rattle.program_flow.specs.Tables.{is_named_by}
 use Rattle.expectations.specs.NamedRegisters.{is_register_named}
-use Rattle.schedule_space.specs.declared.watches.Bound.TheVariants as space
-use Rattle.schedule_space.specs.declared.explorations.Exploration.{Exploration}
-use Rattle.schedule_space.specs.declared.explorations.Exploration.TheVariants.{Complete, Bounded}
-use Rattle.schedule_space.specs.Spaces.{SpaceValue, count, IsComplete, HasAllEdges, IsDistinct, StandAlone, IsShortest}
-use Rattle.schedule_space.specs.Followed.{AllFollowed, HasAllEnds}
-use Rattle.schedule_space.specs.Quiet.{AllFollowedQuietly}
-use Rattle.schedule_space.specs.Answers.{space_in, is_complete, bound_in, IsFull}
-use Rattle.schedule_space.proofs.Agreeing.{agree_same}
-use Rattle.schedule_verdicts.specs.NamedRegisters.{AreNamed}
-use Rattle.schedule_verdicts.specs.RightSpaces.{IsFollowedForClaims}
-use Rattle.schedule_verdicts.specs.ShownClaims.{TellsOfClaims}
+use Rattle.space_ends.specs.ScheduleSpaceTypes.Bound.TheVariants as space
+use Rattle.space_ends.specs.ScheduleSpaceTypes.Exploration.{Exploration}
+use Rattle.space_ends.specs.ScheduleSpaceTypes.Exploration.TheVariants.{Complete, Bounded}
+use Rattle.space_ends.specs.ScheduleSpace.Spaces.{SpaceValue, count, IsComplete, HasAllEdges, IsDistinct, StandAlone, IsShortest}
+use Rattle.space_ends.specs.ScheduleSpace.Followed.{AllFollowed, HasAllEnds}
+use Rattle.space_ends.specs.ScheduleSpace.Quiet.{AllFollowedQuietly}
+use Rattle.space_ends.specs.ScheduleSpace.Answers.{space_in, is_complete, bound_in, IsFull}
+use Rattle.space_ends.proofs.ScheduleSpace.Agreeing.{agree_same}
+use Rattle.space_ends.specs.ScheduleVerdicts.NamedRegisters.{AreNamed}
+use Rattle.space_ends.specs.ScheduleVerdicts.RightSpaces.{IsFollowedForClaims}
+use Rattle.space_ends.specs.ScheduleVerdicts.ShownClaims.{TellsOfClaims}
 use Rattle.program_searches.specs.Bounds.{IsBoundBy}
 use Rattle.program_searches.specs.Searches.{takes_all, most_worlds, HasNeededWorlds, IsSearched}
 use Rattle.program_searches.specs.declared.bounds.SearchBound.{SearchBound}

@@ -7,9 +7,9 @@ use Rattle.std.proofs.lemmas.List.Elements.{All-contains}
 use Rattle.image_file.specs.ImageValue.{ImageValue}
 use Rattle.processor.specs.World.{run}
 use Rattle.processor.specs.declared.steps.Step.{Step}
-use Rattle.schedule_space.specs.Spaces.{count, schedule_of, world_of}
-use Rattle.schedule_space.specs.Reaching.{IsEnd}
-use Rattle.schedule_space.proofs.Agreeing.{agree_same}
+use Rattle.space_ends.specs.ScheduleSpace.Spaces.{count, schedule_of, world_of}
+use Rattle.space_ends.specs.ScheduleSpace.Reaching.{IsEnd}
+use Rattle.space_ends.proofs.ScheduleSpace.Agreeing.{agree_same}
 use Rattle.space_ends.specs.EndsOfSpace.{ListedEnd, ends_in, IsListedEnd, IsShortestShown}
 use Rattle.space_ends.specs.declared.end_values.SpaceEndKind.{SpaceEndKind}
 use Rattle.space_ends.specs.declared.end_values.SpaceEndKind.TheVariants as space

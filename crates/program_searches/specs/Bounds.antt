@@ -1,7 +1,7 @@
 -- What ends a search before its end.
 use Rattle.std.specs.Prelude.{◌≡◌, ◌⊎◌, ⊤, ℕ, List, codes, Option, Some, None}
-use Rattle.schedule_space.specs.declared.watches.Bound.{Bound}
-use Rattle.schedule_space.specs.declared.watches.Bound.TheVariants as space
+use Rattle.space_ends.specs.ScheduleSpaceTypes.Bound.{Bound}
+use Rattle.space_ends.specs.ScheduleSpaceTypes.Bound.TheVariants as space
 use Rattle.program_searches.specs.declared.bounds.SearchBound.{SearchBound}
 use Rattle.program_searches.specs.declared.bounds.SearchBound.TheVariants as bound
 use Rattle.program_searches.specs.declared.searches.SearchFault.{SearchFault}

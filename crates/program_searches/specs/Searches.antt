@@ -2,13 +2,13 @@
 use Rattle.std.specs.Prelude.{◌≡◌, ◌≤◌, ◌↔◌, ℕ, max, Bool, not, ◌||◌, IsTrue, IsFalse, Option, Some, None, is_some, IfSome, [], map}
 use Rattle.std.specs.List.{position}
 use Rattle.image_file.specs.ImageValue.{ImageValue}
-use Rattle.schedule_space.specs.Spaces.{SpaceValue, count, IsComplete, IsShortest, StandAlone}
-use Rattle.schedule_space.specs.Followed.{AllFollowed, HasAllEnds, HasShortestEnds, TellsWhetherAllEnd}
-use Rattle.schedule_space.specs.Answers.{IsFull}
-use Rattle.busy_streams.specs.BusySpaces.{HasAllWorlds}
-use Rattle.schedule_verdicts.specs.NamedRegisters.{AreNamed}
-use Rattle.schedule_verdicts.specs.RightSpaces.{IsFollowedForClaims}
-use Rattle.schedule_verdicts.specs.ShownClaims.{AreShown, IsUnshownAt, IsRightThroughout}
+use Rattle.space_ends.specs.ScheduleSpace.Spaces.{SpaceValue, count, IsComplete, IsShortest, StandAlone}
+use Rattle.space_ends.specs.ScheduleSpace.Followed.{AllFollowed, HasAllEnds, HasShortestEnds, TellsWhetherAllEnd}
+use Rattle.space_ends.specs.ScheduleSpace.Answers.{IsFull}
+use Rattle.space_ends.specs.BusyStreams.BusySpaces.{HasAllWorlds}
+use Rattle.space_ends.specs.ScheduleVerdicts.NamedRegisters.{AreNamed}
+use Rattle.space_ends.specs.ScheduleVerdicts.RightSpaces.{IsFollowedForClaims}
+use Rattle.space_ends.specs.ScheduleVerdicts.ShownClaims.{AreShown, IsUnshownAt, IsRightThroughout}
 use Rattle.program_rules.specs.Keeping.{is_kept}
 use Rattle.expectation_files.specs.Judged.{IsJudged}
 use Rattle.expectation_files.specs.declared.requirements.Requirements.{Requirements}

@@ -5,8 +5,8 @@ use Rattle.processor.specs.World.{run}
 use Rattle.processor.specs.declared.steps.Step.{Step}
 use Rattle.end_kinds.specs.declared.kinds.EndKind.{EndKind}
 use Rattle.end_kinds.specs.declared.kinds.EndKind.TheVariants as kind
-use Rattle.schedule_space.specs.Spaces.{SpaceValue, world_of}
-use Rattle.schedule_space.specs.Reaching.{IsEnd}
+use Rattle.space_ends.specs.ScheduleSpace.Spaces.{SpaceValue, world_of}
+use Rattle.space_ends.specs.ScheduleSpace.Reaching.{IsEnd}
 use Rattle.space_ends.specs.EndsOfSpace.{ListedEnd}
 use Rattle.space_ends.specs.declared.end_values.SpaceEnd.{SpaceEnd}
 use Rattle.space_ends.specs.declared.end_values.SpaceEndKind.{SpaceEndKind}

@@ -1,14 +1,14 @@
 //! What a search among the schedules of a program came to.
 
 ghost use Rattle.std.specs.Prelude.{◌≡◌, length};
-ghost use Rattle.schedule_space.specs.Spaces.{count};
+ghost use Rattle.space_ends.specs.ScheduleSpace.Spaces.{count};
 ghost use Rattle.program_searches.specs.Shortest.{is_last, is_shortest_by_ends, is_shortest};
 ghost use Rattle.program_searches.specs.Statuses.{status_of_bound, unkept_in, status_of_search};
 
 use crate::bounds::SearchBound;
 use crate::unkept::Unkept;
 use end_kinds::{EndKind, Status};
-use schedule_space::Space;
+use space_ends::space::Space;
 use space_ends::{SpaceEnd, SpaceEndKind};
 
 /// What a search among the schedules of a program came to.

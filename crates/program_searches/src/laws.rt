@@ -2,7 +2,7 @@
 
 ghost use Rattle.std.specs.Prelude.{◌≤◌, ◌<◌, ℕ, IsTrue, Contains, length};
 ghost use Rattle.image_file.specs.ImageValue.{ImageValue};
-ghost use Rattle.schedule_space.specs.Spaces.{count, schedule_of};
+ghost use Rattle.space_ends.specs.ScheduleSpace.Spaces.{count, schedule_of};
 ghost use Rattle.space_ends.specs.EndsOfSpace.{ListedEnd, ends_in};
 ghost use Rattle.space_ends.specs.declared.end_values.SpaceEndKind.{SpaceEndKind};
 ghost use Rattle.program_searches.specs.declared.explored.Explored.{Explored};

@@ -16,5 +16,6 @@ pub use bounds::{SearchBound, USUAL_MEGABYTES};
 pub use explored::Explored;
 pub use laws::no_schedule_to_it_is_shorter;
 pub use searches::{ProgramSearch, SearchFault, explore_program};
+pub use space_ends as ends_of_space;
 pub use unkept::Unkept;
 pub use watching::Console;

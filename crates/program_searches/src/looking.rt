@@ -1,6 +1,6 @@
 //! How many worlds of a space there is time to look at, as claims ask for it: each is made anew, by the steps of its schedule.
 
-use schedule_space::Space;
+use space_ends::space::Space;
 use std::alloc::{AllocError, Global};
 use std::time::Duration;
 

@@ -30,30 +30,30 @@
 //! that `SearchFault::Clock` is promised to come only if the time is bounded.
 
 ghost use Rattle.std.specs.Prelude.{◌≡◌, ◌≤◌, ◌⊎◌, ◌↔◌, is_some, min, IsTrue, IsSome, IsNone, IfSome, IfOk, IfErr, None};
-ghost use Rattle.schedule_space.specs.Spaces.{IsComplete, HasAllEdges};
-ghost use Rattle.schedule_space.specs.Followed.{AllFollowed};
-ghost use Rattle.busy_streams.specs.Busy.{IsNeverBusy};
-ghost use Rattle.busy_streams.specs.BusySpaces.{HasAllWorlds};
-ghost use Rattle.schedule_verdicts.specs.KeptClaims.{AreKeptOnTheWay};
+ghost use Rattle.space_ends.specs.ScheduleSpace.Spaces.{IsComplete, HasAllEdges};
+ghost use Rattle.space_ends.specs.ScheduleSpace.Followed.{AllFollowed};
+ghost use Rattle.space_ends.specs.BusyStreams.Busy.{IsNeverBusy};
+ghost use Rattle.space_ends.specs.BusyStreams.BusySpaces.{HasAllWorlds};
+ghost use Rattle.space_ends.specs.ScheduleVerdicts.KeptClaims.{AreKeptOnTheWay};
 ghost use Rattle.expectation_files.specs.Judged.{IsJudged};
-ghost use Rattle.schedule_verdicts.specs.NamedRegisters.{AreNamed};
-ghost use Rattle.schedule_verdicts.specs.RightSpaces.{IsFollowedForClaims, IsRightOnEachWay};
-ghost use Rattle.schedule_verdicts.specs.ShownClaims.{AreShown, IsRightThroughout, IsUnshownAt, TellsOfClaims};
+ghost use Rattle.space_ends.specs.ScheduleVerdicts.NamedRegisters.{AreNamed};
+ghost use Rattle.space_ends.specs.ScheduleVerdicts.RightSpaces.{IsFollowedForClaims, IsRightOnEachWay};
+ghost use Rattle.space_ends.specs.ScheduleVerdicts.ShownClaims.{AreShown, IsRightThroughout, IsUnshownAt, TellsOfClaims};
 ghost use Rattle.program_searches.specs.Bounds.{IsOfClock};
 ghost use Rattle.program_searches.specs.Searches.{most_worlds, takes_all, SaysWhetherRight, IsExplored};
 
 use crate::explored::Explored;
 use crate::spaces::space_in_time;
 use crate::watching::{Console, WatchedSearch, Watcher};
-use busy_streams::{Busy, first_busy};
 use expectation_files::Requirements;
 use image_file::Image;
 use lab_requests::Bounds;
 use machine::LoadFault;
 use processor::Step;
 use program_rules::first_broken;
-use schedule_space::Space;
-use schedule_verdicts::{are_kept_on_the_way, first_unshown, is_right};
+use space_ends::busy::{Busy, first_busy};
+use space_ends::space::Space;
+use space_ends::verdicts::{are_kept_on_the_way, first_unshown, is_right};
 use space_ends::{JudgedBy, space_ends};
 use std::alloc::{AllocError, Global};
 use std::io::{self, Write};

@@ -1,8 +1,8 @@
 //! The worlds that a search finds, and what ended it.
 
 ghost use Rattle.std.specs.Prelude.{◌≡◌, Some, IsTrue, IsFalse, IfOk};
-ghost use Rattle.schedule_space.specs.declared.watches.Bound.{Bound};
-ghost use Rattle.schedule_space.specs.Answers.{space_in, bound_in};
+ghost use Rattle.space_ends.specs.ScheduleSpaceTypes.Bound.{Bound};
+ghost use Rattle.space_ends.specs.ScheduleSpace.Answers.{space_in, bound_in};
 ghost use Rattle.program_searches.specs.Bounds.{IsWatched, IsBoundBy};
 ghost use Rattle.program_searches.specs.Searches.{takes_all, IsSearched};
 
@@ -14,7 +14,7 @@ use claims::places_looked_at;
 use expectations::named_registers;
 use image_file::Image;
 use machine::LoadFault;
-use schedule_space::{Bound, Exploration, Space, explore, explore_ends};
+use space_ends::space::{Bound, Exploration, Space, explore, explore_ends};
 use std::alloc::{AllocError, Global};
 use std::io::Write;
 use std::time::Clock;

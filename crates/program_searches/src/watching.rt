@@ -8,7 +8,7 @@ use crate::held_bytes::{HeldBytes, MEGABYTE};
 use crate::looking::TimeLeft;
 use image_file::Image;
 use lab_requests::Bounds;
-use schedule_space::Watch;
+use space_ends::space::Watch;
 use std::fs::File;
 use std::io::{self, Write};
 use std::time::{Clock, Duration, Instant};

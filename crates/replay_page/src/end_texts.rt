@@ -4,7 +4,9 @@ use crate::lanes::Lanes;
 use crate::pages::{push_cut, push_escaped};
 use crate::runs::RunNames;
 use crate::whole_run::WholeRun;
-use lab_texts::{FindingsOfRun, NumberStyle, ProgramNames, Telling, push_end, push_first_finding};
+use lab_json::texts::{
+    FindingsOfRun, NumberStyle, ProgramNames, Telling, push_end, push_first_finding,
+};
 use std::alloc::{AllocError, Global};
 
 /// How many pixels a letter of the caption takes at most.

@@ -15,6 +15,7 @@ mod whole_pages;
 mod whole_run;
 mod words_drawn;
 
+pub use lab_json as json_values;
 pub use pages::{push_escaped, push_script_data};
 pub use parts::{
     push_base_style, push_elements_script, push_program_script, push_sentences_script,

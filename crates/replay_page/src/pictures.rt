@@ -8,7 +8,7 @@ use crate::runs::RunNames;
 use crate::streams_drawn::push_streams;
 use crate::whole_run::WholeRun;
 use crate::words_drawn::push_words;
-use lab_texts::{FindingsOfRun, ProgramNames};
+use lab_json::texts::{FindingsOfRun, ProgramNames};
 use machine::Machine;
 use processor::Step;
 use std::alloc::{AllocError, Global};

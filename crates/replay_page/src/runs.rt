@@ -4,11 +4,11 @@ use crate::run_verdicts::RunVerdict;
 use crate::waits::RunWait;
 use crate::whole_run::WholeRun;
 use image_file::Image;
+use lab_json::texts::{ProgramNames, wanted_word};
 use lab_json::{
     List, Object, RunTitle, difference_value, end_part, findings_value, head_value, step_part,
     stream_value,
 };
-use lab_texts::{ProgramNames, wanted_word};
 use machine::{LoadFault, Machine};
 use processor::Step;
 use serde_json::Value;

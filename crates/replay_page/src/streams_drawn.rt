@@ -6,7 +6,7 @@ use crate::pages::push_escaped;
 use crate::waits::RunWait;
 use crate::whole_run::WholeRun;
 use crate::words_drawn::push_word_name;
-use lab_texts::{ProgramNames, wanted_word};
+use lab_json::texts::{ProgramNames, wanted_word};
 use processor::Step;
 use std::alloc::AllocError;
 use stream_core::Outcome;

@@ -1,7 +1,7 @@
 //! All that is said of a run.
 
 use crate::waits::{RunWait, run_waits};
-use lab_texts::{RunEnd, end_of};
+use lab_json::texts::{RunEnd, end_of};
 use machine::Machine;
 use processor::Step;
 use run_findings::Action;

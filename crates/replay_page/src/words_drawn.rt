@@ -5,7 +5,7 @@ use crate::marks::{push_bars, push_meeting};
 use crate::pages::push_cut;
 use crate::whole_run::WholeRun;
 use bitflags::Flags;
-use lab_texts::{ProgramNames, full_word};
+use lab_json::texts::{ProgramNames, full_word};
 use run_findings::LostUpdate;
 use std::alloc::AllocError;
 use step_views::{Content, Place, StepView};

@@ -9,6 +9,8 @@ mod row_words;
 mod sealed;
 mod written;
 
+pub use grade_reports as reports;
+pub use grade_reports::{judges, outcomes};
 pub use hex::{checksum_of, hex_of};
 pub use lines::{ClassHead, KeptResult, ResultLine, head_line, read_line, result_line};
 pub use row_values::row_checksum;

@@ -7,8 +7,8 @@ use crate::written::{
     WrittenWitness,
 };
 use class_results::Checksum;
+use grade_reports::judges::{Known, Witness};
 use grade_reports::{CaseRow, CountedEnd, GradeRow, ReportLine, SourcePosition};
-use judgements::{Known, Witness};
 use processor::Step;
 use std::alloc::{AllocError, Global};
 

@@ -1,8 +1,8 @@
 //! The words of rows in lines, read back.
 
 use end_kinds::{EndKind, Status};
-use judgements::VerdictKind;
-use program_searches::SearchBound;
+use grade_reports::judges::VerdictKind;
+use grade_reports::searches::SearchBound;
 
 /// All verdicts.
 const KINDS: [VerdictKind; 10] = [

@@ -3,3 +3,5 @@
 pub mod Links
 pub mod Agreeing
 pub mod Handlers
+pub mod LocalSteps
+pub mod EndKindsTypes

@@ -10,3 +10,4 @@ pub use laws::{
     agreeing_worlds_are_alike, agreeing_worlds_end_alike, handlers_stay_out, links_are_kept,
     schedules_agree,
 };
+pub use local_steps as local;

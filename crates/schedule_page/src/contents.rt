@@ -1,6 +1,6 @@
 //! What a stream holds, as JSON: of the numbers of its row (world_keys).
 
-use lab_json::{Object, digits, text_value};
+use replay_page::json_values::{Object, digits, text_value};
 use serde_json::Value;
 use std::alloc::{AllocError, Global};
 

@@ -1,11 +1,11 @@
 //! The ends of a space as JSON.
 
 use end_goals::EndCriteria;
-use lab_ends::EndWords;
-use lab_json::{List, Object, text_value};
+use end_goals::ends_of_space::SpaceEnd;
 use processor::Step;
+use replay_page::json_values::{List, Object, text_value};
 use serde_json::Value;
-use space_ends::SpaceEnd;
+use space_graphs::ends_in_words::EndWords;
 use std::alloc::{AllocError, Global};
 use trace_text::write_schedule;
 

@@ -14,6 +14,9 @@ mod parts;
 mod records;
 mod shared_states;
 
+pub use end_goals as goals;
+pub use end_goals::{ends_of_space, states};
 pub use ends::PageEnds;
 pub use graphs::{GraphNames, graph_json};
 pub use pages::page_of_graph;
+pub use replay_page as replay;

@@ -3,8 +3,8 @@
 use crate::contents::{content_json, is_running};
 use crate::numbers::number_of;
 use crate::shared_states::shared_json;
-use lab_json::Object;
 use processor::Step;
+use replay_page::json_values::Object;
 use serde_json::Value;
 use state_tables::StateRows;
 use std::alloc::{AllocError, Global};

@@ -3,8 +3,8 @@
 
 use crate::numbers::number_of;
 use crate::page_tables::PageTables;
-use lab_json::{List, outcome_name, reference_value};
 use processor::Step;
+use replay_page::json_values::{List, outcome_name, reference_value};
 use schedule_space::{Space, machine_at};
 use serde_json::Value;
 use std::alloc::{AllocError, Global};

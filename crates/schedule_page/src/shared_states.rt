@@ -1,6 +1,6 @@
 //! What no stream has for itself, as JSON: the words that are not as at the start, and the counts of the processors.
 
-use lab_json::{List, Object, digits};
+use replay_page::json_values::{List, Object, digits};
 use serde_json::Value;
 use std::alloc::{AllocError, Global};
 

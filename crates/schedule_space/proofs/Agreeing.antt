@@ -5,10 +5,10 @@ use Rattle.processor.specs.World.{World, start, after, steps, run}
 use Rattle.processor.specs.declared.steps.Step.{Step}
 use Rattle.processor.proofs.Histories.{steps-append}
 use Rattle.program_flow.specs.Tables.{is_live_at, is_named_by, is_asked_at}
-use Rattle.same_futures.specs.Handlers.{may_have_handlers}
-use Rattle.same_futures.proofs.Chains.{agree_itself, agree_next, agree_back, agreement_kept}
-use Rattle.same_futures.proofs.NoHandlers.{told_by}
-use Rattle.dead_registers.specs.Clearing.{LiveValue, IsLive, AgreeBy}
+use Rattle.agreeing_ends.specs.SameFutures.Handlers.{may_have_handlers}
+use Rattle.agreeing_ends.proofs.SameFutures.Chains.{agree_itself, agree_next, agree_back, agreement_kept}
+use Rattle.agreeing_ends.proofs.SameFutures.NoHandlers.{told_by}
+use Rattle.world_keys.specs.DeadRegisters.Clearing.{LiveValue, IsLive, AgreeBy}
 use Rattle.agreeing_ends.specs.Followed.{IsGrounded}
 use Rattle.agreeing_ends.proofs.Grounded.{grounded}
 use Rattle.schedule_space.specs.Spaces.{SpaceValue, schedule_of, world_of, StandsFor}

@@ -20,11 +20,11 @@ use Rattle.processor.specs.Row.{row_over_memory}
 use Rattle.processor.specs.World.{World, world_step, after}
 use Rattle.processor.specs.declared.steps.Step.{Step}
 use Rattle.program_flow.specs.Tables.{is_live_at, is_named_by, is_asked_at}
-use Rattle.same_futures.specs.Links.{TellsHandlers}
-use Rattle.same_futures.specs.Handlers.{may_have_handlers}
-use Rattle.same_futures.proofs.Chains.{agreement_kept}
-use Rattle.dead_registers.specs.Clearing.{LiveValue, cleared_stream, cleared_processor, cleared, IsLive}
-use Rattle.dead_registers.proofs.Worlds.{same_agree, agreeing_same}
+use Rattle.agreeing_ends.specs.SameFutures.Links.{TellsHandlers}
+use Rattle.agreeing_ends.specs.SameFutures.Handlers.{may_have_handlers}
+use Rattle.agreeing_ends.proofs.SameFutures.Chains.{agreement_kept}
+use Rattle.world_keys.specs.DeadRegisters.Clearing.{LiveValue, cleared_stream, cleared_processor, cleared, IsLive}
+use Rattle.world_keys.proofs.DeadRegisters.Worlds.{same_agree, agreeing_same}
 use Rattle.world_keys.specs.WorldKeys.{processor_in, no_processor}
 use Rattle.schedule_space.specs.KnownSteps.{IsTold, AreTold}
 use Rattle.schedule_space.specs.StreamSteps.{stream_over_memory, IsPlainIn}

@@ -6,7 +6,7 @@ use Rattle.std.proofs.lemmas.Bool.{cases_lt}
 use Rattle.machine.specs.MachineValue.{MachineValue}
 use Rattle.processor.specs.declared.steps.Step.{Step}
 use Rattle.processor.specs.World.{World}
-use Rattle.local_steps.specs.FreeSteps.{IsFreeStep}
+use Rattle.agreeing_ends.specs.LocalSteps.FreeSteps.{IsFreeStep}
 use Rattle.schedule_space.specs.Spaces.{SpaceValue, count, schedule_of, world_of, machine_after}
 use Rattle.schedule_space.specs.Finding.{IsGrown, IsTakenTo, IsExpanded, HasRunning}
 use Rattle.schedule_space.specs.Followed.{IsFollowed, AllFollowed}

@@ -7,13 +7,13 @@ use Rattle.processor.specs.World.{World, after}
 use Rattle.processor.specs.declared.steps.Step.{Step}
 use Rattle.waiting.specs.Running.{runs_in}
 use Rattle.std.specs.Prelude.{IsTrue}
-use Rattle.same_futures.specs.Handlers.{may_have_handlers}
-use Rattle.same_futures.specs.Links.{TellsHandlers}
-use Rattle.same_futures.proofs.NoHandlers.{told_by}
+use Rattle.agreeing_ends.specs.SameFutures.Handlers.{may_have_handlers}
+use Rattle.agreeing_ends.specs.SameFutures.Links.{TellsHandlers}
+use Rattle.agreeing_ends.proofs.SameFutures.NoHandlers.{told_by}
 use Rattle.schedule_space.specs.Spaces.{SpaceValue, schedule_of, machine_after}
 use Rattle.schedule_space.specs.Kept.{machine_next}
 use Rattle.schedule_space.proofs.Schedules.{run-push}
-use Rattle.dead_registers.specs.Clearing.{LiveValue, cleared, cleared_processor, IsLive}
+use Rattle.world_keys.specs.DeadRegisters.Clearing.{LiveValue, cleared, cleared_processor, IsLive}
 use Rattle.world_keys.specs.Tables.{place_in, Has, Extends}
 use Rattle.world_keys.specs.WorldKeys.{processor_in, key_of, IsKnown}
 use Rattle.world_keys.proofs.Worlds.{key_kept, known_kept}

@@ -6,8 +6,8 @@ use Rattle.std.proofs.lemmas.Bool.{cases_lt}
 use Rattle.processor.specs.World.{after, run}
 use Rattle.processor.specs.declared.steps.Step.{Step}
 use Rattle.std.specs.Prelude.{IsTrue}
-use Rattle.same_futures.specs.Handlers.{may_have_handlers}
-use Rattle.dead_registers.specs.Clearing.{IsLive, AgreeBy}
+use Rattle.agreeing_ends.specs.SameFutures.Handlers.{may_have_handlers}
+use Rattle.world_keys.specs.DeadRegisters.Clearing.{IsLive, AgreeBy}
 use Rattle.agreeing_ends.proofs.Reached.{has_all_worlds}
 use Rattle.schedule_space.specs.declared.links.Link.{Link}
 use Rattle.schedule_space.specs.declared.links.Edge.{Edge}

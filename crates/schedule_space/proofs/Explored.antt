@@ -5,7 +5,7 @@ use Rattle.std.proofs.lemmas.List.{get_or-replicate}
 use Rattle.std.specs.Prelude.{Result, Ok, Err, IfOk, IsTrue}
 use Rattle.std.specs.List.{Contains}
 use Rattle.program_flow.specs.Tables.{is_named_by}
-use Rattle.dead_registers.specs.Clearing.{IsLive}
+use Rattle.world_keys.specs.DeadRegisters.Clearing.{IsLive}
 use Rattle.schedule_space.specs.declared.explorations.Exploration.{Exploration}
 use Rattle.schedule_space.specs.declared.expanding.Wanted.{Wanted}
 use Rattle.schedule_space.specs.declared.links.Edge.{Edge}

@@ -6,7 +6,7 @@ use Rattle.image_file.specs.ImageValue.{ImageValue}
 use Rattle.machine.specs.MachineValue.{MachineValue}
 use Rattle.processor.specs.World.{start, after, run, steps}
 use Rattle.processor.specs.declared.steps.Step.{Step}
-use Rattle.dead_registers.specs.Clearing.{LiveValue, IsLive}
+use Rattle.world_keys.specs.DeadRegisters.Clearing.{LiveValue, IsLive}
 use Rattle.schedule_space.specs.Spaces.{SpaceValue, count, schedule_of, world_of, machine_after, AreAllApart, IsShortest}
 use Rattle.schedule_space.specs.Spaces.{HasStandIn, LacksStandIn, HasEarlierLinks}
 use Rattle.schedule_space.specs.Answers.{most_places, IsFull}

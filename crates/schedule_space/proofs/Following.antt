@@ -5,8 +5,8 @@ use Rattle.std.specs.Prelude.{IsTrue}
 use Rattle.std.specs.List.{Contains}
 use Rattle.processor.specs.World.{steps}
 use Rattle.processor.specs.declared.steps.Step.{Step}
-use Rattle.same_futures.specs.Handlers.{may_have_handlers}
-use Rattle.dead_registers.specs.Clearing.{IsLive, AgreeBy}
+use Rattle.agreeing_ends.specs.SameFutures.Handlers.{may_have_handlers}
+use Rattle.world_keys.specs.DeadRegisters.Clearing.{IsLive, AgreeBy}
 use Rattle.agreeing_ends.specs.Followed as found
 use Rattle.agreeing_ends.proofs.Moving.{moved}
 use Rattle.agreeing_ends.proofs.Reached.{end_on, has_all_ends, has_shortest_ends, tells_whether_all_end}

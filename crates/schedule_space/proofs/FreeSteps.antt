@@ -24,13 +24,13 @@ use Rattle.processor.proofs.Begun.{row_over_memory_begun}
 use Rattle.processor.proofs.Histories.{get_set_same, get_set_other}
 use Rattle.std.proofs.lemmas.Option.{slice_get_within}
 use Rattle.waiting.specs.Running.{streams_at}
-use Rattle.local_steps.specs.LocalSteps.{IsLocalStep}
-use Rattle.local_steps.specs.EndingSteps.{IsEnding, IsEndingStep}
-use Rattle.local_steps.specs.FreeSteps.{IsFreeStep}
-use Rattle.local_steps.proofs.Alone.{IsPlain, plain_of, stepped, there_awake}
-use Rattle.local_steps.proofs.Ended.{IsEnd, end_of, there_ending}
-use Rattle.local_steps.proofs.Commuting.{put, after_there, alone_over_memory}
-use Rattle.local_steps.proofs.Orders.{same_or_other}
+use Rattle.agreeing_ends.specs.LocalSteps.LocalSteps.{IsLocalStep}
+use Rattle.agreeing_ends.specs.LocalSteps.EndingSteps.{IsEnding, IsEndingStep}
+use Rattle.agreeing_ends.specs.LocalSteps.FreeSteps.{IsFreeStep}
+use Rattle.agreeing_ends.proofs.LocalSteps.Alone.{IsPlain, plain_of, stepped, there_awake}
+use Rattle.agreeing_ends.proofs.LocalSteps.Ended.{IsEnd, end_of, there_ending}
+use Rattle.agreeing_ends.proofs.LocalSteps.Commuting.{put, after_there, alone_over_memory}
+use Rattle.agreeing_ends.proofs.LocalSteps.Orders.{same_or_other}
 use Rattle.schedule_space.specs.Quiet.{stream_of_step}
 
 -- The step of stream n of a processor leaves it this stream in place of its own, and the memory, whatever that holds.

@@ -6,7 +6,7 @@ use Rattle.std.proofs.lemmas.List.Elements.{Contains-append_left}
 use Rattle.std.proofs.Math.Seq.{get_or-append_seam}
 use Rattle.processor.specs.World.{World, after, run}
 use Rattle.processor.specs.declared.steps.Step.{Step}
-use Rattle.dead_registers.specs.Clearing.{LiveValue, AgreeBy}
+use Rattle.world_keys.specs.DeadRegisters.Clearing.{LiveValue, AgreeBy}
 use Rattle.schedule_space.specs.declared.links.Link.{Link}
 use Rattle.schedule_space.specs.declared.links.Edge.{Edge}
 use Rattle.schedule_space.specs.Spaces.{schedules, SpaceValue, count, schedule_of, world_of, StandsFor, IsEdgeToStandIn}

@@ -17,7 +17,7 @@ use Rattle.processor.specs.Records.{is_running, is_running_status}
 use Rattle.processor.specs.World.{World}
 use Rattle.processor.specs.declared.steps.Step.{Step}
 use Rattle.waiting.specs.Running.{streams_at, runs_at, runs_in}
-use Rattle.dead_registers.specs.Clearing.{LiveValue, cleared}
+use Rattle.world_keys.specs.DeadRegisters.Clearing.{LiveValue, cleared}
 use Rattle.world_keys.specs.Tables.{place_in, Has}
 use Rattle.world_keys.specs.StreamNumbers.{all_halves, status_code, stream_words, stream_numbers, IsReadable}
 use Rattle.world_keys.specs.WorldKeys.{stream_marks, processor_numbers, processor_place, key_of, no_processor, processor_in}

@@ -8,8 +8,8 @@ use Rattle.image_file.specs.ImageValue.{ImageValue}
 use Rattle.machine.specs.MachineValue.{MachineValue}
 use Rattle.processor.specs.World.{World, after, run}
 use Rattle.processor.specs.declared.steps.Step.{Step}
-use Rattle.dead_registers.specs.Clearing.{LiveValue, cleared, IsLive, AgreeBy}
-use Rattle.dead_registers.proofs.Worlds.{agreeing_same, same_agree}
+use Rattle.world_keys.specs.DeadRegisters.Clearing.{LiveValue, cleared, IsLive, AgreeBy}
+use Rattle.world_keys.proofs.DeadRegisters.Worlds.{agreeing_same, same_agree}
 use Rattle.world_keys.specs.Tables.{place_in, Has, Extends}
 use Rattle.world_keys.specs.WorldKeys.{key_of, IsKnown}
 use Rattle.world_keys.proofs.Places.{place_get}

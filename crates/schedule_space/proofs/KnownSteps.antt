@@ -14,7 +14,7 @@ use Rattle.machine.specs.MachineValue.{MachineValue}
 use Rattle.processor.specs.World.{World, world_step, world_step_at, after}
 use Rattle.processor.specs.declared.steps.Step.{Step}
 use Rattle.processor.proofs.Histories.{after-absent}
-use Rattle.dead_registers.specs.Clearing.{LiveValue, cleared_stream, cleared_processor, cleared, IsLive}
+use Rattle.world_keys.specs.DeadRegisters.Clearing.{LiveValue, cleared_stream, cleared_processor, cleared, IsLive}
 use Rattle.world_keys.specs.Tables.{place_in, Has, Extends}
 use Rattle.world_keys.specs.MemoryNumbers.{memory_numbers}
 use Rattle.world_keys.specs.declared.next_keys.Change.{Change}

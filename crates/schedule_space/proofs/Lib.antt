@@ -28,3 +28,6 @@ pub mod Following
 pub mod Explored
 pub mod FreeSteps
 pub mod QuietSteps
+pub mod AgreeingEnds
+pub mod DeadRegisters
+pub mod SameFutures

@@ -2,7 +2,7 @@
 use Rattle.std.proofs.Common.{◌≡◌, ℕ, List}
 use Rattle.processor.specs.World.{after}
 use Rattle.processor.specs.declared.steps.Step.{Step}
-use Rattle.dead_registers.specs.Clearing.{cleared}
+use Rattle.world_keys.specs.DeadRegisters.Clearing.{cleared}
 use Rattle.world_keys.specs.Tables.{Extends}
 use Rattle.world_keys.specs.WorldKeys.{key_of, IsKnown}
 use Rattle.schedule_space.specs.declared.links.Link.{Link}

@@ -12,8 +12,8 @@ use Rattle.std.proofs.Math.Seq.{get_or-append_seam}
 use Rattle.image_file.specs.ImageValue.{ImageValue}
 use Rattle.processor.specs.World.{World, after, run, steps}
 use Rattle.processor.specs.declared.steps.Step.{Step}
-use Rattle.same_futures.specs.Handlers.{may_have_handlers}
-use Rattle.dead_registers.specs.Clearing.{IsLive}
+use Rattle.agreeing_ends.specs.SameFutures.Handlers.{may_have_handlers}
+use Rattle.world_keys.specs.DeadRegisters.Clearing.{IsLive}
 use Rattle.agreeing_ends.proofs.Reached.{can_over}
 use Rattle.schedule_space.specs.declared.links.Edge.{Edge}
 use Rattle.schedule_space.specs.Spaces.{SpaceValue, count, schedule_of, world_of, Has, HasEarlierLinks, IsComplete, IsEdgeToStandIn, HasAllEdges}

@@ -9,7 +9,7 @@ use Rattle.std.proofs.Math.Seq.{get_or-append_seam}
 use Rattle.image_file.specs.ImageValue.{ImageValue}
 use Rattle.processor.specs.World.{World, after}
 use Rattle.processor.specs.declared.steps.Step.{Step}
-use Rattle.dead_registers.specs.Clearing.{LiveValue, IsLive}
+use Rattle.world_keys.specs.DeadRegisters.Clearing.{LiveValue, IsLive}
 use Rattle.world_keys.specs.Tables.{Extends}
 use Rattle.world_keys.specs.WorldKeys.{key_of, IsKnown}
 use Rattle.world_keys.proofs.Worlds.{key_kept, known_kept}

@@ -9,10 +9,10 @@ use Rattle.machine.specs.MachineValue.{MachineValue}
 use Rattle.processor.specs.World.{after}
 use Rattle.processor.specs.declared.steps.Step.{Step}
 use Rattle.std.specs.Prelude.{IsTrue}
-use Rattle.same_futures.specs.Handlers.{may_have_handlers}
-use Rattle.same_futures.specs.Links.{TellsHandlers}
-use Rattle.same_futures.proofs.NoHandlers.{told_by}
-use Rattle.dead_registers.specs.Clearing.{LiveValue, cleared, IsLive}
+use Rattle.agreeing_ends.specs.SameFutures.Handlers.{may_have_handlers}
+use Rattle.agreeing_ends.specs.SameFutures.Links.{TellsHandlers}
+use Rattle.agreeing_ends.proofs.SameFutures.NoHandlers.{told_by}
+use Rattle.world_keys.specs.DeadRegisters.Clearing.{LiveValue, cleared, IsLive}
 use Rattle.world_keys.specs.Tables.{place_in, Has, Extends}
 use Rattle.world_keys.specs.WorldKeys.{key_of, IsKnown}
 use Rattle.schedule_space.specs.declared.links.Link.{Link}

@@ -11,9 +11,9 @@ use Rattle.processor.specs.World.{World}
 use Rattle.program_flow.specs.Agreement.{with_registers}
 use Rattle.program_flow.specs.Codes.{with_codes}
 use Rattle.program_flow.specs.Tables.{is_asked_at}
-use Rattle.dead_registers.specs.Clearing.{LiveValue, matters, kept_from, kept_by, cleared_stream, cleared_processor, cleared, IsLive}
-use Rattle.dead_registers.proofs.Registers.{all_kept, idle_same, does_matter}
-use Rattle.dead_registers.proofs.Worlds.{agreeing_same}
+use Rattle.world_keys.specs.DeadRegisters.Clearing.{LiveValue, matters, kept_from, kept_by, cleared_stream, cleared_processor, cleared, IsLive}
+use Rattle.world_keys.proofs.DeadRegisters.Registers.{all_kept, idle_same, does_matter}
+use Rattle.world_keys.proofs.DeadRegisters.Worlds.{agreeing_same}
 use Rattle.world_keys.specs.WorldKeys.{IsKnown, IsKnownStream, IsKnownIf, IsKnownProcessor, no_processor}
 use Rattle.schedule_space.specs.Spaces.{SpaceValue, world_of, StandAlone}
 use Rattle.schedule_space.specs.Finding.{NamesAll, IsKeyed}

@@ -15,15 +15,15 @@ use Rattle.processor.specs.Row.{image_fetch, row_over_memory}
 use Rattle.processor.specs.World.{World, after, steps, stream_of}
 use Rattle.processor.specs.declared.steps.Step.{Step}
 use Rattle.machine.specs.MachineValue.{MachineValue, IsMachine}
-use Rattle.local_steps.specs.LocalSteps.{IsLocalStep}
-use Rattle.local_steps.specs.EndingSteps.{IsEndingStep}
-use Rattle.local_steps.specs.FreeSteps.{IsFreeStep}
-use Rattle.local_steps.proofs.Alone.{IsPlain, plain_of, stepped, there_awake}
-use Rattle.local_steps.proofs.Commuting.{put, after_there, kept_stream, there_same}
-use Rattle.local_steps.proofs.Ended.{end_of, there_ending, stays_at}
-use Rattle.local_steps.proofs.Ending.{kept, there_behind, stays_ending_step}
-use Rattle.local_steps.proofs.Orders.{same_or_other, stays}
-use Rattle.local_steps.proofs.Told.{shown}
+use Rattle.agreeing_ends.specs.LocalSteps.LocalSteps.{IsLocalStep}
+use Rattle.agreeing_ends.specs.LocalSteps.EndingSteps.{IsEndingStep}
+use Rattle.agreeing_ends.specs.LocalSteps.FreeSteps.{IsFreeStep}
+use Rattle.agreeing_ends.proofs.LocalSteps.Alone.{IsPlain, plain_of, stepped, there_awake}
+use Rattle.agreeing_ends.proofs.LocalSteps.Commuting.{put, after_there, kept_stream, there_same}
+use Rattle.agreeing_ends.proofs.LocalSteps.Ended.{end_of, there_ending, stays_at}
+use Rattle.agreeing_ends.proofs.LocalSteps.Ending.{kept, there_behind, stays_ending_step}
+use Rattle.agreeing_ends.proofs.LocalSteps.Orders.{same_or_other, stays}
+use Rattle.agreeing_ends.proofs.LocalSteps.Told.{shown}
 use Rattle.agreeing_ends.specs.Unseen.{AreOthers}
 use Rattle.schedule_space.specs.Quiet.{is_looked_at, is_seen, stream_of_step, IsQuietStep}
 use Rattle.schedule_space.proofs.FreeSteps.{named_there, stepped_local, stepped_ending}

@@ -12,7 +12,7 @@ use Rattle.processor.specs.Row.{with_stream}
 use Rattle.processor.specs.World.{World, after}
 use Rattle.processor.specs.declared.steps.Step.{Step}
 use Rattle.processor.proofs.Counting.{weight, count-set}
-use Rattle.dead_registers.specs.Clearing.{LiveValue, cleared_stream, cleared_processor, IsLive}
+use Rattle.world_keys.specs.DeadRegisters.Clearing.{LiveValue, cleared_stream, cleared_processor, IsLive}
 use Rattle.world_keys.specs.Tables.{place_in, Has, Extends}
 use Rattle.world_keys.specs.StreamNumbers.{stream_numbers, IsReadable}
 use Rattle.world_keys.specs.MemoryNumbers.{memory_numbers}

@@ -9,7 +9,7 @@ use Rattle.machine.specs.MachineValue.{MachineValue}
 use Rattle.processor.specs.World.{World, world_step, after}
 use Rattle.processor.specs.declared.steps.Step.{Step}
 use Rattle.waiting.specs.Running.{runs_in}
-use Rattle.dead_registers.specs.Clearing.{AgreeBy}
+use Rattle.world_keys.specs.DeadRegisters.Clearing.{AgreeBy}
 use Rattle.schedule_space.specs.declared.links.Edge.{Edge}
 use Rattle.schedule_space.specs.Spaces.{SpaceValue, count, schedule_of, world_of, machine_after, StandsFor, IsEdgeToStandIn}
 use Rattle.schedule_space.specs.Finding.{with_edge, IsGrown, IsTaken, IsTakenTo, IsExpanded, IsBreadthFirst, HasRunning}

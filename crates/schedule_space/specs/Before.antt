@@ -3,9 +3,9 @@ use Rattle.std.specs.Prelude.{◌≡◌, List, ℕ, IsTrue}
 use Rattle.machine.specs.MachineValue.{MachineValue}
 use Rattle.processor.specs.World.{after}
 use Rattle.processor.specs.declared.steps.Step.{Step}
-use Rattle.same_futures.specs.Links.{TellsHandlers}
-use Rattle.same_futures.specs.Handlers.{may_have_handlers}
-use Rattle.dead_registers.specs.Clearing.{LiveValue, cleared_processor, cleared, IsLive}
+use Rattle.agreeing_ends.specs.SameFutures.Links.{TellsHandlers}
+use Rattle.agreeing_ends.specs.SameFutures.Handlers.{may_have_handlers}
+use Rattle.world_keys.specs.DeadRegisters.Clearing.{LiveValue, cleared_processor, cleared, IsLive}
 use Rattle.world_keys.specs.WorldKeys.{processor_in, key_of, IsKnown}
 use Rattle.schedule_space.specs.declared.known_steps.Places.{Places}
 use Rattle.schedule_space.specs.declared.known_steps.StepsSeen.{StepsSeen}

@@ -6,7 +6,7 @@ use Rattle.processor.specs.World.{World, after, run}
 use Rattle.processor.specs.declared.steps.Step.{Step}
 use Rattle.waiting.specs.Running.{runs_in}
 use Rattle.program_flow.specs.Tables.{is_named_by}
-use Rattle.dead_registers.specs.Clearing.{LiveValue, cleared, IsLive, AgreeBy}
+use Rattle.world_keys.specs.DeadRegisters.Clearing.{LiveValue, cleared, IsLive, AgreeBy}
 use Rattle.agreeing_ends.specs.Followed.{FoundWorlds}
 use Rattle.agreeing_ends.specs.Followed as found
 use Rattle.world_keys.specs.WorldKeys.{key_of, IsKnown}

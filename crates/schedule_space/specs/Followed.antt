@@ -3,7 +3,7 @@
 use Rattle.std.specs.Prelude.{ℕ, ◌<◌, ◌≤◌, ◌++◌, ◌⊎◌, List, length}
 use Rattle.processor.specs.World.{run}
 use Rattle.processor.specs.declared.steps.Step.{Step}
-use Rattle.local_steps.specs.FreeSteps.{IsFreeStep}
+use Rattle.agreeing_ends.specs.LocalSteps.FreeSteps.{IsFreeStep}
 use Rattle.schedule_space.specs.Spaces.{SpaceValue, count, schedule_of, world_of, StandsFor, HasStandIn}
 use Rattle.schedule_space.specs.Reaching.{IsEnd, CanEnd}
 use Rattle.schedule_space.specs.Finding.{IsTaken, IsExpanded}

@@ -7,8 +7,8 @@ use Rattle.stream_core.specs.Streams.{StreamValue, cannot_trap}
 use Rattle.processor.specs.Processors.{ProcessorValue, stream_at}
 use Rattle.processor.specs.Records.{is_running}
 use Rattle.processor.specs.Row.{row_over_memory}
-use Rattle.same_futures.specs.Handlers.{may_have_handlers}
-use Rattle.dead_registers.specs.Clearing.{LiveValue, cleared_processor}
+use Rattle.agreeing_ends.specs.SameFutures.Handlers.{may_have_handlers}
+use Rattle.world_keys.specs.DeadRegisters.Clearing.{LiveValue, cleared_processor}
 use Rattle.world_keys.specs.Tables.{place_in, Has}
 use Rattle.world_keys.specs.MemoryNumbers.{memory_numbers}
 use Rattle.world_keys.specs.WorldKeys.{processor_place, IsMemoryOf, IsKnownProcessor}

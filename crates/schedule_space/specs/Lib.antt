@@ -11,3 +11,6 @@ pub mod Before
 pub mod Finding
 pub mod Followed
 pub mod Quiet
+pub mod AgreeingEnds
+pub mod DeadRegisters
+pub mod SameFutures

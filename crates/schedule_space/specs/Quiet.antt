@@ -8,7 +8,7 @@ use Rattle.processor.specs.Records.{is_running}
 use Rattle.processor.specs.World.{World, after}
 use Rattle.processor.specs.declared.steps.Step.{Step}
 use Rattle.waiting.specs.Running.{streams_at}
-use Rattle.local_steps.specs.FreeSteps.{IsFreeStep}
+use Rattle.agreeing_ends.specs.LocalSteps.FreeSteps.{IsFreeStep}
 use Rattle.schedule_space.specs.Spaces.{SpaceValue, count, world_of}
 use Rattle.schedule_space.specs.Finding.{IsTaken, IsExpanded}
 

@@ -5,7 +5,7 @@ use Rattle.image_file.specs.ImageValue.{ImageValue}
 use Rattle.processor.specs.World.{World, after, run}
 use Rattle.processor.specs.declared.steps.Step.{Step}
 use Rattle.machine.specs.MachineValue.{MachineValue}
-use Rattle.dead_registers.specs.Clearing.{LiveValue, AgreeBy}
+use Rattle.world_keys.specs.DeadRegisters.Clearing.{LiveValue, AgreeBy}
 use Rattle.schedule_space.specs.declared.links.Link.{Link}
 use Rattle.schedule_space.specs.declared.links.Edge.{Edge}
 

@@ -16,7 +16,7 @@ use Rattle.processor.specs.Processors.{is_idle, stream_at}
 use Rattle.processor.specs.World.{World}
 use Rattle.processor.specs.declared.steps.Step.{Step}
 use Rattle.processor.specs.Row.{image_fetch, request_on_fetch, memory_reply}
-use Rattle.dead_registers.specs.Clearing.{LiveValue, cleared_stream}
+use Rattle.world_keys.specs.DeadRegisters.Clearing.{LiveValue, cleared_stream}
 use Rattle.world_keys.specs.Tables.{place_in, Has}
 use Rattle.world_keys.specs.StreamNumbers.{stream_numbers, IsReadable}
 use Rattle.world_keys.specs.MemoryNumbers.{memory_numbers}

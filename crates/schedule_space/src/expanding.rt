@@ -2,7 +2,7 @@
 
 ghost use Rattle.std.specs.Prelude.{◌≡◌, ◌<◌, ◌⊎◌, ◌++◌, [], ◌∷◌, true, false, Err, Contains, IfOk, OnOk};
 ghost use Rattle.processor.specs.declared.steps.Step.{Step};
-ghost use Rattle.local_steps.specs.SettledEndings.{AreSettled};
+ghost use Rattle.agreeing_ends.specs.LocalSteps.SettledEndings.{AreSettled};
 ghost use Rattle.schedule_space.specs.declared.links.Edge.{Edge};
 ghost use Rattle.schedule_space.specs.Spaces.{world_of, AreAllDifferent};
 ghost use Rattle.schedule_space.specs.Kept.{AreKept, AreKeptAt};
@@ -14,7 +14,7 @@ use crate::finding::{Found, Stop};
 use crate::kept_machines::KeptMachines;
 use crate::links::{Edge, Link};
 use crate::quiet::is_quiet_step;
-use local_steps::is_free_step;
+use agreeing_ends::local::is_free_step;
 use processor::Step;
 
 /// What a search looks for.

@@ -2,7 +2,7 @@
 
 ghost use Rattle.std.specs.Prelude.{◌≡◌, ◌<◌, ◌≤◌, ◌↔◌, ℕ, true, Some, IsTrue, IsFalse, IfOk, Contains};
 ghost use Rattle.schedule_space.specs.declared.links.Edge.{Edge};
-ghost use Rattle.dead_registers.specs.Clearing.{IsLive};
+ghost use Rattle.world_keys.specs.DeadRegisters.Clearing.{IsLive};
 ghost use Rattle.schedule_space.specs.Spaces.{count, IsComplete, IsDistinct, IsShortest, HasAllEdges};
 ghost use Rattle.schedule_space.specs.Spaces.{AreAllApart, StandAlone, ShortestFirst, AreAllDifferent, IsEdgeToStandIn};
 ghost use Rattle.schedule_space.specs.Finding.{IsExpanded, NamesAll};
@@ -15,14 +15,14 @@ use crate::finding::{Found, Stop};
 use crate::kept_machines::KeptMachines;
 use crate::spaces::Space;
 use crate::watches::{Bound, Watch};
-use dead_registers::LiveRegisters;
+use agreeing_ends::local::settled_places;
 use image_file::Image;
-use local_steps::settled_places;
 use machine::{LoadFault, Machine};
 use processor::{Processor, Step};
 use program_flow::Row;
 use std::alloc::Global;
 use std::mem::size_of;
+use world_keys::registers::LiveRegisters;
 
 /// How many worlds a search goes through from one question to who looks on to the next.
 const WORLDS_PER_LOOK: u32 = 16;

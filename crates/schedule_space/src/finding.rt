@@ -5,7 +5,7 @@ ghost use Rattle.std.specs.Prelude.{◌≡◌, ◌<◌, ◌≤◌, ◌+◌, [], 
 ghost use Rattle.std.specs.Prelude.{Contains};
 ghost use Rattle.image_file.specs.ImageValue.{ImageValue};
 ghost use Rattle.processor.specs.World.{after};
-ghost use Rattle.dead_registers.specs.Clearing.{IsLive};
+ghost use Rattle.world_keys.specs.DeadRegisters.Clearing.{IsLive};
 ghost use Rattle.schedule_space.specs.Spaces.{count, schedule_of, world_of, machine_after};
 ghost use Rattle.schedule_space.specs.Spaces.{StandsFor, AreAllApart, StandAlone, ShortestFirst, AreAllDifferent};
 ghost use Rattle.schedule_space.specs.Spaces.{HasEarlierLinks, IsEdgeToStandIn};
@@ -14,7 +14,7 @@ ghost use Rattle.world_keys.specs.Tables.{Has};
 ghost use Rattle.machine.specs.MachineValue.{MachineValue};
 ghost use Rattle.schedule_space.specs.Spaces.{machine_by, IsRoute};
 ghost use Rattle.schedule_space.specs.Kept.{AreKeptAt, IsAtHand, IsSameButHere, machine_next, IsMachineMore};
-ghost use Rattle.dead_registers.specs.Clearing.{LiveValue};
+ghost use Rattle.world_keys.specs.DeadRegisters.Clearing.{LiveValue};
 ghost use Rattle.schedule_space.specs.StreamSteps.{AreAllLeft};
 ghost use Rattle.schedule_space.specs.Before.{IsBefore};
 ghost use Rattle.world_keys.specs.Tables.{Extends};
@@ -31,13 +31,13 @@ use crate::links::{Edge, Link};
 use crate::next_worlds::key_after;
 use crate::routes::{Route, route_to};
 use crate::spaces::Space;
-use dead_registers::LiveRegisters;
 use image_file::Image;
 use machine::Machine;
 use processor::Step;
 use std::alloc::{AllocError, AllocFailed, Global};
 use std::marker::Model;
 use std::mem::size_of;
+use world_keys::registers::LiveRegisters;
 use world_keys::{Table, world_key};
 
 /// The worlds that were found so far, with their keys.

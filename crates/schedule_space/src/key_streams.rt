@@ -9,7 +9,7 @@ ghost use Rattle.processor.specs.Records.{is_running};
 ghost use Rattle.processor.specs.World.{World, after};
 ghost use Rattle.machine.specs.MachineValue.{MachineValue};
 ghost use Rattle.waiting.specs.Running.{runs_in};
-ghost use Rattle.dead_registers.specs.Clearing.{LiveValue, cleared};
+ghost use Rattle.world_keys.specs.DeadRegisters.Clearing.{LiveValue, cleared};
 ghost use Rattle.world_keys.specs.Tables.{place_in, Has, Extends};
 ghost use Rattle.world_keys.specs.StreamNumbers.{stream_numbers, IsReadable};
 ghost use Rattle.world_keys.specs.WorldKeys.{processor_numbers, processor_place, key_of};

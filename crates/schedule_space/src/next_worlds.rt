@@ -3,9 +3,9 @@
 ghost use Rattle.std.specs.Prelude.{◌≡◌, ◌<◌, ◌+◌, ◌∷◌, [], length, slice_index_or, IsTrue, None, Some, IfSome, IfOk, OnOk};
 ghost use Rattle.machine.specs.MachineValue.{MachineValue};
 ghost use Rattle.processor.specs.World.{after};
-ghost use Rattle.same_futures.specs.Links.{TellsHandlers};
-ghost use Rattle.same_futures.specs.Handlers.{may_have_handlers};
-ghost use Rattle.dead_registers.specs.Clearing.{LiveValue, cleared_processor, cleared, IsLive};
+ghost use Rattle.agreeing_ends.specs.SameFutures.Links.{TellsHandlers};
+ghost use Rattle.agreeing_ends.specs.SameFutures.Handlers.{may_have_handlers};
+ghost use Rattle.world_keys.specs.DeadRegisters.Clearing.{LiveValue, cleared_processor, cleared, IsLive};
 ghost use Rattle.world_keys.specs.Tables.{Extends};
 ghost use Rattle.world_keys.specs.WorldKeys.{processor_in, key_of, IsKnown};
 ghost use Rattle.schedule_space.specs.Spaces.{machine_after, machine_by, IsRoute};
@@ -19,10 +19,10 @@ use crate::known_steps::{KnownSteps, Places, SearchKnowledge};
 use crate::marks::{is_plain, mark_in, place_with};
 use crate::routes::Route;
 use crate::stepping::{Reach, change_of, reach_of, stepped};
-use dead_registers::LiveRegisters;
 use machine::Machine;
 use processor::Step;
 use std::alloc::{AllocError, Global};
+use world_keys::registers::LiveRegisters;
 use world_keys::{Table, next_key};
 
 /// The key of the world to which a step leads from the one at the end of a route, from the key `before` the step; None

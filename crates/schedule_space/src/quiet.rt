@@ -2,7 +2,7 @@
 
 ghost use Rattle.std.specs.Prelude.{◌≡◌, ℕ, false, None, IsTrue, IsFalse};
 ghost use Rattle.stream_core.specs.StreamRow.{plan_of, control_at, stream_row};
-ghost use Rattle.local_steps.specs.FreeSteps.{IsFreeStep};
+ghost use Rattle.agreeing_ends.specs.LocalSteps.FreeSteps.{IsFreeStep};
 ghost use Rattle.schedule_space.specs.Quiet.{is_looked_at, is_seen, IsQuietStep};
 
 use image_file::Image;

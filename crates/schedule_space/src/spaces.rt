@@ -1,7 +1,7 @@
 //! A space of worlds, and what can be read of it.
 
 ghost use Rattle.std.specs.Prelude.{◌≡◌, ◌<◌, ◌↔◌, length, IfOk, Contains};
-ghost use Rattle.dead_registers.specs.Clearing.{IsLive};
+ghost use Rattle.world_keys.specs.DeadRegisters.Clearing.{IsLive};
 ghost use Rattle.schedule_space.specs.declared.links.Edge.{Edge};
 ghost use Rattle.schedule_space.specs.Spaces.{count, schedule_of, world_of, machine_after, IsEdgeToStandIn, HasEarlierLinks};
 ghost use Rattle.schedule_space.specs.Spaces.{ShortestFirst, AreAllDifferent};
@@ -11,12 +11,12 @@ ghost use Rattle.schedule_space.specs.Finding.{space_of, IsSpace};
 use crate::fates::Fate;
 use crate::links::{Edge, Link};
 use crate::routes::{route_to, schedule_by};
-use dead_registers::LiveRegisters;
 use image_file::Image;
 use machine::{LoadFault, Machine};
 use processor::Step;
 use std::alloc::{AllocError, Global};
 use std::marker::Model;
+use world_keys::registers::LiveRegisters;
 
 /// Worlds of an image, each once, that schedules lead to: the first is that of the schedule with which all begin, and
 /// each other one has a link, which says by which step from which earlier world it was found. Each stands for all that

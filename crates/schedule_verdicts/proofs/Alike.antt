@@ -13,9 +13,9 @@ use Rattle.processor.specs.World.{World}
 use Rattle.processor.specs.declared.steps.Step.{Step}
 use Rattle.waiting.specs.Running.{streams_at, runs_at, runs_in}
 use Rattle.program_flow.specs.Tables.{is_named_by}
-use Rattle.dead_registers.specs.Clearing.{LiveValue, kept_registers, cleared_stream, cleared_processor, cleared, AgreeBy}
-use Rattle.dead_registers.proofs.Registers.{all_kept, is_kept, does_matter}
-use Rattle.dead_registers.proofs.Worlds.{agreeing_same}
+use Rattle.busy_streams.specs.DeadRegisters.Clearing.{LiveValue, kept_registers, cleared_stream, cleared_processor, cleared, AgreeBy}
+use Rattle.busy_streams.proofs.DeadRegisters.Registers.{all_kept, is_kept, does_matter}
+use Rattle.busy_streams.proofs.DeadRegisters.Worlds.{agreeing_same}
 use Rattle.expectations.specs.Meeting.{stream_in, holds_in_register, is_number, is_stopped_by, all_idle, is_met}
 use Rattle.expectations.specs.NamedRegisters.{names_register, is_register_named}
 use Rattle.expectations.specs.declared.expectation.Expectation.{Expectation}

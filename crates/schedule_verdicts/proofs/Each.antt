@@ -5,9 +5,9 @@ use Rattle.processor.specs.World.{run}
 use Rattle.processor.specs.declared.steps.Step.{Step}
 use Rattle.expectations.specs.declared.expectation.Expectation.{Expectation}
 use Rattle.claims.specs.declared.claim.Claim.{Claim}
-use Rattle.schedule_space.specs.Spaces.{SpaceValue, count, world_of, HasEarlierLinks}
-use Rattle.schedule_space.specs.Reaching.{IsEnd, CanEnd}
-use Rattle.schedule_space.proofs.Schedules.{goes_on}
+use Rattle.busy_streams.specs.ScheduleSpace.Spaces.{SpaceValue, count, world_of, HasEarlierLinks}
+use Rattle.busy_streams.specs.ScheduleSpace.Reaching.{IsEnd, CanEnd}
+use Rattle.busy_streams.proofs.ScheduleSpace.Schedules.{goes_on}
 use Rattle.schedule_verdicts.specs.RightEnds.{IsRightEnd}
 use Rattle.schedule_verdicts.specs.KeptClaims.{all_hold}
 use Rattle.schedule_verdicts.specs.RightSpaces.{IsRight, IsRightOnEachWay}

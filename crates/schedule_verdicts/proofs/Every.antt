@@ -5,8 +5,8 @@ use Rattle.std.specs.Prelude.{IsTrue}
 use Rattle.processor.specs.World.{World, run}
 use Rattle.expectations.specs.declared.expectation.Expectation.{Expectation}
 use Rattle.claims.specs.declared.claim.Claim.{Claim}
-use Rattle.schedule_space.specs.Spaces.{SpaceValue, Has, IsComplete}
-use Rattle.schedule_space.specs.Reaching.{IsEnd, CanEnd}
+use Rattle.busy_streams.specs.ScheduleSpace.Spaces.{SpaceValue, Has, IsComplete}
+use Rattle.busy_streams.specs.ScheduleSpace.Reaching.{IsEnd, CanEnd}
 use Rattle.schedule_verdicts.specs.RightEnds.{IsRightEnd}
 use Rattle.schedule_verdicts.specs.KeptClaims.{all_hold}
 use Rattle.schedule_verdicts.specs.RightSpaces.{IsRight, IsRightOnEachWay}

@@ -7,3 +7,4 @@ mod Sought
 pub mod OnTheWay
 mod Unseen
 mod Shown
+pub mod ScheduleSpace

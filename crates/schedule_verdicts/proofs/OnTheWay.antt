@@ -5,7 +5,7 @@ use Rattle.stream_core.specs.declared.steps.Outcome.{Outcome}
 use Rattle.image_file.specs.ImageValue.{ImageValue}
 use Rattle.processor.specs.World.{World, world_step, after, run}
 use Rattle.processor.specs.declared.steps.Step.{Step}
-use Rattle.schedule_space.proofs.Schedules.{run-push}
+use Rattle.busy_streams.proofs.ScheduleSpace.Schedules.{run-push}
 
 -- the world behind one step more
 pub step_more : (image other : ImageValue) (ts : List Step) (k : ℕ) (d : Step) (w new : World) (o : Outcome)

@@ -4,22 +4,22 @@ use Rattle.std.proofs.Common.{ℕ, ◌⊎◌, inl, inr, sym, ◌∙◌, ◌++◌
 use Rattle.std.specs.Prelude.{IsTrue}
 use Rattle.processor.specs.World.{World, run, steps}
 use Rattle.processor.specs.declared.steps.Step.{Step}
-use Rattle.same_futures.specs.Handlers.{may_have_handlers}
-use Rattle.same_futures.proofs.Chains.{schedules_agree}
-use Rattle.dead_registers.specs.Clearing.{IsLive, AgreeBy}
-use Rattle.agreeing_ends.specs.Followed as found
-use Rattle.agreeing_ends.specs.Unseen.{IsMoving, IsRespected, IsTakenUnseen}
-use Rattle.agreeing_ends.proofs.Keeping.{holds_wherever}
+use Rattle.busy_streams.specs.SameFutures.Handlers.{may_have_handlers}
+use Rattle.busy_streams.proofs.SameFutures.Chains.{schedules_agree}
+use Rattle.busy_streams.specs.DeadRegisters.Clearing.{IsLive, AgreeBy}
+use Rattle.busy_streams.specs.AgreeingEnds.Followed as found
+use Rattle.busy_streams.specs.AgreeingEnds.Unseen.{IsMoving, IsRespected, IsTakenUnseen}
+use Rattle.busy_streams.proofs.AgreeingEnds.Keeping.{holds_wherever}
 use Rattle.expectations.specs.declared.expectation.Expectation.{Expectation}
 use Rattle.claims.specs.declared.claim.Claim.{Claim}
-use Rattle.schedule_space.specs.Spaces.{SpaceValue}
-use Rattle.schedule_space.specs.Finding.{found_in}
-use Rattle.schedule_space.specs.Followed.{AllFollowed}
-use Rattle.schedule_space.specs.Quiet.{IsFollowedQuietly}
-use Rattle.schedule_space.proofs.Agreeing.{Named, Live, Asked, ground, from_begin}
-use Rattle.schedule_space.proofs.Alone.{followed_all}
-use Rattle.schedule_space.proofs.Following.{ends_all, tells_all}
-use Rattle.schedule_space.proofs.QuietSteps.{quiet_behind}
+use Rattle.busy_streams.specs.ScheduleSpace.Spaces.{SpaceValue}
+use Rattle.busy_streams.specs.ScheduleSpace.Finding.{found_in}
+use Rattle.busy_streams.specs.ScheduleSpace.Followed.{AllFollowed}
+use Rattle.busy_streams.specs.ScheduleSpace.Quiet.{IsFollowedQuietly}
+use Rattle.busy_streams.proofs.ScheduleSpace.Agreeing.{Named, Live, Asked, ground, from_begin}
+use Rattle.busy_streams.proofs.ScheduleSpace.Alone.{followed_all}
+use Rattle.busy_streams.proofs.ScheduleSpace.Following.{ends_all, tells_all}
+use Rattle.busy_streams.proofs.ScheduleSpace.QuietSteps.{quiet_behind}
 use Rattle.schedule_verdicts.specs.KeptClaims.{all_hold, AreKept}
 use Rattle.schedule_verdicts.specs.NamedRegisters.{AreNamed, EndOfRegisters}
 use Rattle.schedule_verdicts.specs.RightSpaces.{IsRight, IsRightOnEachWay, IsFollowedForClaims}

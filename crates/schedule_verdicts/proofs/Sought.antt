@@ -6,13 +6,13 @@ use Rattle.std.proofs.lemmas.Bool.{or_left, or_right}
 use Rattle.std.proofs.lemmas.Option.{same_Some}
 use Rattle.processor.specs.World.{World, run}
 use Rattle.processor.specs.declared.steps.Step.{Step}
-use Rattle.dead_registers.specs.Clearing.{IsLive}
+use Rattle.busy_streams.specs.DeadRegisters.Clearing.{IsLive}
 use Rattle.claims.specs.Holding.{form_holds, holds_by, shown_by, shows}
 use Rattle.claims.specs.Looking.{form_looks_at, is_looked_at}
 use Rattle.claims.specs.declared.claim.Claim.{Claim}
 use Rattle.claims.specs.declared.claim.Scope.{Scope}
 use Rattle.claims.specs.declared.claim.Scope.TheVariants.{Always, Never, Once}
-use Rattle.schedule_space.specs.Spaces.{SpaceValue, count, world_of, IsComplete}
+use Rattle.busy_streams.specs.ScheduleSpace.Spaces.{SpaceValue, count, world_of, IsComplete}
 use Rattle.schedule_verdicts.specs.KeptClaims.{AreKept}
 use Rattle.schedule_verdicts.specs.RightSpaces.{IsFollowedForClaims}
 use Rattle.schedule_verdicts.specs.ShownClaims.{IsShown, IsUnshownIn, TellsOfClaims}

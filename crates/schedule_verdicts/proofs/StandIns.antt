@@ -6,21 +6,21 @@ use Rattle.image_file.specs.ImageValue.{ImageValue}
 use Rattle.processor.specs.World.{World, run}
 use Rattle.processor.specs.declared.steps.Step.{Step}
 use Rattle.program_flow.specs.Tables.{is_live_at, is_named_by, is_asked_at}
-use Rattle.same_futures.specs.Agreeing.{EndAlike}
-use Rattle.same_futures.specs.Handlers.{may_have_handlers}
-use Rattle.same_futures.specs.Links.{TellsHandlers}
-use Rattle.same_futures.proofs.Chains.{agree_back}
-use Rattle.same_futures.proofs.Alike.{agreeing_end_alike}
-use Rattle.same_futures.proofs.NoHandlers.{told_by}
+use Rattle.busy_streams.specs.SameFutures.Agreeing.{EndAlike}
+use Rattle.busy_streams.specs.SameFutures.Handlers.{may_have_handlers}
+use Rattle.busy_streams.specs.SameFutures.Links.{TellsHandlers}
+use Rattle.busy_streams.proofs.SameFutures.Chains.{agree_back}
+use Rattle.busy_streams.proofs.SameFutures.Alike.{agreeing_end_alike}
+use Rattle.busy_streams.proofs.SameFutures.NoHandlers.{told_by}
 use Rattle.end_kinds.specs.declared.kinds.EndKind.TheVariants as kind
-use Rattle.dead_registers.specs.Clearing.{LiveValue, IsLive, AgreeBy}
+use Rattle.busy_streams.specs.DeadRegisters.Clearing.{LiveValue, IsLive, AgreeBy}
 use Rattle.expectations.specs.NamedRegisters.{names_register, is_register_named, IsOfRegisters}
 use Rattle.expectations.specs.declared.expectation.Expectation.{Expectation}
 use Rattle.expectations.specs.declared.expectation.Expectation.TheVariants as expect
 use Rattle.claims.specs.declared.claim.Claim.{Claim}
-use Rattle.schedule_space.specs.Spaces.{SpaceValue, world_of, HasStandIn}
-use Rattle.schedule_space.specs.Reaching.{IsEnd}
-use Rattle.schedule_space.specs.Followed.{HasAllEnds, TellsWhetherAllEnd}
+use Rattle.busy_streams.specs.ScheduleSpace.Spaces.{SpaceValue, world_of, HasStandIn}
+use Rattle.busy_streams.specs.ScheduleSpace.Reaching.{IsEnd}
+use Rattle.busy_streams.specs.ScheduleSpace.Followed.{HasAllEnds, TellsWhetherAllEnd}
 use Rattle.schedule_verdicts.specs.NamedRegisters.{AreNamed, AreAllNamed, AreOfRegisters, EndOfRegisters}
 use Rattle.schedule_verdicts.specs.RightEnds.{IsRightEnd}
 use Rattle.schedule_verdicts.specs.RightSpaces.{EndRight, EndsRight, IsRight}

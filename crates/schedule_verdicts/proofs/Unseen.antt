@@ -12,15 +12,15 @@ use Rattle.processor.specs.Processors as processors
 use Rattle.processor.specs.Records.{is_running}
 use Rattle.processor.specs.World.{World, after}
 use Rattle.processor.specs.declared.steps.Step.{Step}
-use Rattle.agreeing_ends.proofs.Moving.{same_step}
+use Rattle.busy_streams.proofs.AgreeingEnds.Moving.{same_step}
 use Rattle.claims.specs.Holding.{runs_at_places, count_at_places, stream_at, word_holds, form_holds, holds_by}
 use Rattle.claims.specs.Looking.{form_looks_at, is_looked_at}
 use Rattle.claims.specs.declared.claim.Claim.{Claim}
 use Rattle.claims.specs.declared.claim.ClaimForm.{ClaimForm}
 use Rattle.claims.specs.declared.claim.ClaimForm.TheVariants as form
-use Rattle.schedule_space.specs.Quiet.{is_seen, stream_of_step}
-use Rattle.schedule_space.proofs.FreeSteps.{free_memory, free_others}
-use Rattle.schedule_space.proofs.QuietSteps.{IsFreeQuiet}
+use Rattle.busy_streams.specs.ScheduleSpace.Quiet.{is_seen, stream_of_step}
+use Rattle.busy_streams.proofs.ScheduleSpace.FreeSteps.{free_memory, free_others}
+use Rattle.busy_streams.proofs.ScheduleSpace.QuietSteps.{IsFreeQuiet}
 use Rattle.schedule_verdicts.specs.KeptClaims.{all_hold}
 
 -- whether a stream runs at places of a range

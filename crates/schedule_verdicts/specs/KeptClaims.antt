@@ -6,7 +6,7 @@ use Rattle.processor.specs.World.{World, run}
 use Rattle.processor.specs.declared.steps.Step.{Step}
 use Rattle.claims.specs.Holding.{holds}
 use Rattle.claims.specs.declared.claim.Claim.{Claim}
-use Rattle.schedule_space.specs.Spaces.{SpaceValue, count, world_of}
+use Rattle.busy_streams.specs.ScheduleSpace.Spaces.{SpaceValue, count, world_of}
 
 -- whether some claims hold of a world
 abbrev pub all_hold : List Claim → World → Bool

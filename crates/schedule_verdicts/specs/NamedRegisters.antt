@@ -4,8 +4,8 @@ use Rattle.std.specs.List.{AllByRecursion}
 use Rattle.program_flow.specs.Tables.{is_named_by}
 use Rattle.expectations.specs.NamedRegisters.{is_register_named, IsOfRegisters}
 use Rattle.expectations.specs.declared.expectation.Expectation.{Expectation}
-use Rattle.schedule_space.specs.Spaces.{SpaceValue, count, world_of}
-use Rattle.schedule_space.specs.Reaching.{IsEnd}
+use Rattle.busy_streams.specs.ScheduleSpace.Spaces.{SpaceValue, count, world_of}
+use Rattle.busy_streams.specs.ScheduleSpace.Reaching.{IsEnd}
 
 -- each of the 32 registers is named that an expectation looks at
 abbrev pub AreNamed : List Expectation → List Bool → Type 0

@@ -11,7 +11,7 @@ use Rattle.processor.specs.declared.steps.Step.{Step}
 use Rattle.expectations.specs.Meeting.{is_met, stream_in}
 use Rattle.expectations.specs.declared.expectation.Expectation.{Expectation}
 use Rattle.expectations.specs.declared.expectation.Expectation.TheVariants as expect
-use Rattle.schedule_space.specs.Fates.{IsFinished}
+use Rattle.busy_streams.specs.ScheduleSpace.Fates.{IsFinished}
 
 -- whether all that is expected is so
 abbrev pub are_met : World → List Expectation → Bool

@@ -6,9 +6,9 @@ use Rattle.processor.specs.declared.steps.Step.{Step}
 use Rattle.expectations.specs.declared.expectation.Expectation.{Expectation}
 use Rattle.claims.specs.Looking.{is_looked_at}
 use Rattle.claims.specs.declared.claim.Claim.{Claim}
-use Rattle.schedule_space.specs.Spaces.{SpaceValue, count, world_of}
-use Rattle.schedule_space.specs.Reaching.{IsEnd, CanEnd}
-use Rattle.schedule_space.specs.Quiet.{AllFollowedQuietly}
+use Rattle.busy_streams.specs.ScheduleSpace.Spaces.{SpaceValue, count, world_of}
+use Rattle.busy_streams.specs.ScheduleSpace.Reaching.{IsEnd, CanEnd}
+use Rattle.busy_streams.specs.ScheduleSpace.Quiet.{AllFollowedQuietly}
 use Rattle.schedule_verdicts.specs.RightEnds.{IsRightEnd}
 use Rattle.schedule_verdicts.specs.KeptClaims.{all_hold, AreKept}
 

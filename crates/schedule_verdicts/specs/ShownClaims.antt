@@ -5,7 +5,7 @@ use Rattle.processor.specs.World.{run}
 use Rattle.processor.specs.declared.steps.Step.{Step}
 use Rattle.claims.specs.Holding.{shows}
 use Rattle.claims.specs.declared.claim.Claim.{Claim}
-use Rattle.schedule_space.specs.Spaces.{SpaceValue, count, world_of, IsComplete}
+use Rattle.busy_streams.specs.ScheduleSpace.Spaces.{SpaceValue, count, world_of, IsComplete}
 use Rattle.busy_streams.specs.Busy.{IsNeverBusy}
 use Rattle.expectations.specs.declared.expectation.Expectation.{Expectation}
 use Rattle.schedule_verdicts.specs.KeptClaims.{AreKeptOnTheWay}

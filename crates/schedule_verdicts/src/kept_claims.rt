@@ -4,11 +4,11 @@ ghost use Rattle.std.specs.Prelude.{◌≡◌, ◌↔◌, ◌<◌, IsTrue, IfOk,
 ghost use Rattle.claims.specs.Holding.{holds};
 ghost use Rattle.schedule_verdicts.specs.KeptClaims.{all_hold, AreKept, AreKeptOnTheWay};
 
+use busy_streams::space::Space;
 use claims::Claim;
 use image_file::Image;
 use machine::{LoadFault, Machine};
 use processor::Step;
-use schedule_space::Space;
 use std::alloc::Global;
 
 /// Whether claims hold of each world of a space.

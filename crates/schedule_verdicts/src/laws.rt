@@ -4,7 +4,7 @@ ghost use Rattle.std.specs.Prelude.{◌≡◌, List};
 ghost use Rattle.processor.specs.World.{World};
 ghost use Rattle.expectations.specs.declared.expectation.Expectation.{Expectation};
 ghost use Rattle.claims.specs.declared.claim.Claim.{Claim};
-ghost use Rattle.dead_registers.specs.Clearing.{LiveValue, AgreeBy};
+ghost use Rattle.busy_streams.specs.DeadRegisters.Clearing.{LiveValue, AgreeBy};
 ghost use Rattle.schedule_verdicts.specs.KeptClaims.{all_hold};
 ghost use Rattle.schedule_verdicts.specs.NamedRegisters.{AreAllNamed};
 ghost use Rattle.schedule_verdicts.specs.RightEnds.{IsRightEnd, are_met};

@@ -7,6 +7,8 @@ mod right_ends;
 mod right_spaces;
 mod shown_claims;
 
+pub use busy_streams as busy;
+pub use busy_streams::space;
 pub use kept_claims::are_kept_on_the_way;
 pub use laws::agreeing_worlds_are_judged_alike;
 pub use right_ends::{are_traps_expected, is_right_end};

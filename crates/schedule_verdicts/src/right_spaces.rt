@@ -1,19 +1,19 @@
 //! Whether every schedule of an image comes to a right end.
 
 ghost use Rattle.std.specs.Prelude.{◌≡◌, ◌↔◌, ◌<◌, ◌⊎◌, IsTrue, IfOk, Err, ℕ};
-ghost use Rattle.schedule_space.specs.Spaces.{count, world_of, IsComplete, HasAllEdges};
-ghost use Rattle.schedule_space.specs.Reaching.{CanEnd};
-ghost use Rattle.schedule_space.specs.Followed.{AllFollowed, HasAllEnds, TellsWhetherAllEnd};
+ghost use Rattle.busy_streams.specs.ScheduleSpace.Spaces.{count, world_of, IsComplete, HasAllEdges};
+ghost use Rattle.busy_streams.specs.ScheduleSpace.Reaching.{CanEnd};
+ghost use Rattle.busy_streams.specs.ScheduleSpace.Followed.{AllFollowed, HasAllEnds, TellsWhetherAllEnd};
 ghost use Rattle.schedule_verdicts.specs.NamedRegisters.{AreNamed, IsOfRegistersAt, EndOfRegisters};
 ghost use Rattle.schedule_verdicts.specs.RightSpaces.{IsRight, IsRightAt, EndRight, AllCanEnd, EndsRight, IsRightOnEachWay};
 ghost use Rattle.schedule_verdicts.specs.RightSpaces.{IsFollowedForClaims};
 
 use crate::kept_claims::are_kept;
 use crate::right_ends::is_right_end;
+use busy_streams::space::{Fate, Space};
 use claims::Claim;
 use expectations::Expectation;
 use machine::LoadFault;
-use schedule_space::{Fate, Space};
 use std::alloc::{AllocError, Global};
 
 /// Whether each end in a space is right, an end can be reached from each of its worlds, and the claims hold of each. Of a

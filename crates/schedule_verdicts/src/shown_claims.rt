@@ -4,11 +4,11 @@ ghost use Rattle.std.specs.Prelude.{◌≡◌, ◌<◌, ◌↔◌, IsTrue, IsFal
 ghost use Rattle.schedule_verdicts.specs.ShownClaims.{IsShownOnTheWay, IsUnshownOnTheWay, IsShown, AreShown};
 ghost use Rattle.schedule_verdicts.specs.ShownClaims.{IsUnshownIn, IsUnshownAt, TellsOfClaims};
 
+use busy_streams::space::Space;
 use claims::Claim;
 use image_file::Image;
 use machine::{LoadFault, Machine};
 use processor::Step;
-use schedule_space::Space;
 use std::alloc::Global;
 
 /// The first of some claims, counted from 0, that no world of a space shows and none on the way through its beginning; None

@@ -3,8 +3,8 @@
 use expectation_files::{Requirements, WrittenLine};
 use lab_ends::broken_line;
 use lab_json::{Fields, line_value};
+use program_searches::ends_of_space::SpaceEnd;
 use serde_json::Value;
-use space_ends::SpaceEnd;
 use std::alloc::{AllocError, Global};
 
 /// The lines of a file that says what is expected, by what was read of them; none where there is no file.

@@ -11,8 +11,11 @@ mod unkept;
 mod widths;
 
 pub use bounds::{bound_value, put_bound};
+pub use command_parts as parts;
 pub use end_columns::{EndCells, EndColumns, end_line};
 pub use expectation_texts::push_expected;
 pub use expected_lines::ExpectedLines;
+pub use lab_ends as ends_in_words;
+pub use program_searches as searches;
 pub use search_faults::search_fault;
 pub use unkept::{push_unkept, push_unkept_objects};

@@ -17,12 +17,12 @@ use Rattle.end_kinds.specs.declared.kinds.EndKind.{EndKind}
 use Rattle.end_kinds.specs.contracts.kinds.EndKind as kind
 use Rattle.changed_words.specs.declared.changed.ChangedWord.{ChangedWord}
 use Rattle.changed_words.specs.contracts.changed.ChangedWordPartialEq.TheImpl as changed_word
-use Rattle.end_states.specs.declared.states.TrapStop.{TrapStop}
-use Rattle.end_states.specs.declared.states.WaitingStream.{WaitingStream}
-use Rattle.end_states.specs.declared.judgements.EndJudgement.{EndJudgement}
-use Rattle.end_states.specs.contracts.states.TrapStopPartialEq.TheImpl as trap_stop
-use Rattle.end_states.specs.contracts.states.WaitingStreamPartialEq.TheImpl as waiting_stream
-use Rattle.end_states.specs.contracts.judgements.EndJudgementPartialEq.TheImpl as judgement
+use Rattle.space_ends.specs.EndStatesTypes.TrapStop.{TrapStop}
+use Rattle.space_ends.specs.EndStatesTypes.WaitingStream.{WaitingStream}
+use Rattle.space_ends.specs.EndStatesTypes.EndJudgement.{EndJudgement}
+use Rattle.space_ends.specs.EndStatesTypes.TrapStopPartialEq.TheImpl as trap_stop
+use Rattle.space_ends.specs.EndStatesTypes.WaitingStreamPartialEq.TheImpl as waiting_stream
+use Rattle.space_ends.specs.EndStatesTypes.EndJudgementPartialEq.TheImpl as judgement
 
 Decides-word : (x y : Cell) → Decides (word.eq-value.it x y) (x ≡ y)
 Decides-word x y =

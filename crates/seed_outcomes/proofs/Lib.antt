@@ -7,3 +7,4 @@ mod Surveyed
 mod SeedParts
 mod Answered
 mod EqualTests
+pub mod ScheduleVerdicts

@@ -1,7 +1,7 @@
 -- Outcomes of one line, and runs that end as an outcome says.
 use Rattle.std.proofs.Common.{ℕ, refl, sym, ◌∙◌, subst}
-use Rattle.end_states.specs.declared.judgements.EndJudgement.{EndJudgement}
-use Rattle.end_states.specs.declared.states.EndState.{EndState}
+use Rattle.space_ends.specs.EndStatesTypes.EndJudgement.{EndJudgement}
+use Rattle.space_ends.specs.EndStatesTypes.EndState.{EndState}
 use Rattle.seed_outcomes.specs.SeedRuns.{SurveyedProgram, IsSeedRun, EndsSo}
 use Rattle.seed_outcomes.specs.Outcomes.{AreSameStates, AreOfOneLine}
 use Rattle.seed_outcomes.specs.declared.outcomes.SeedOutcome.{SeedOutcome}

@@ -1,7 +1,7 @@
 -- The seeds from one place to another, and those after them.
 use Rattle.std.proofs.Common.{◌≡◌, ℕ, zero, suc, ◌+◌, ◌-◌, ◌≤◌, refl, sym, ap, ◌∙◌, arith}
 use Rattle.std.proofs.Common.{List, [], ◌∷◌, ◌++◌, length}
-use Rattle.seed_verdicts.specs.Seeds.{seed_at}
+use Rattle.space_ends.specs.SeedVerdicts.Seeds.{seed_at}
 use Rattle.seed_outcomes.specs.SeedLists.{seeds_from, seeds_between}
 
 seeds_length : (first place n : ℕ) → length (seeds_from first place n) ≡ n

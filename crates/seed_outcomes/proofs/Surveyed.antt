@@ -2,7 +2,7 @@
 use Rattle.std.proofs.Common.{◌≡◌, ℕ, ◌+◌, ◌-◌, ◌<◌, ◌≤◌, ◌^◌, sym, ap, ◌∙◌, subst, arith}
 use Rattle.std.proofs.Common.{List, [], ◌∷◌, ◌++◌}
 use Rattle.std.proofs.lemmas.List.Elements.{All-cons, All-nil}
-use Rattle.seed_verdicts.specs.Seeds.{seed_at}
+use Rattle.space_ends.specs.SeedVerdicts.Seeds.{seed_at}
 use Rattle.seed_outcomes.specs.Sharing.{AreShared}
 use Rattle.seed_outcomes.specs.SeedLists.{seeds_between}
 use Rattle.seed_outcomes.specs.SeedRuns.{SurveyedProgram, IsSeedRun, EndsSo}

@@ -3,13 +3,13 @@ use Rattle.std.specs.Prelude.{◌≡◌, ◌≤◌, ◌⊎◌, ℕ, List, Some, 
 use Rattle.std.specs.List.{sum_by}
 use Rattle.image_file.specs.ImageValue.{ImageValue}
 use Rattle.schedule_makers.specs.FairLengths.{IsFairLength}
-use Rattle.seed_verdicts.specs.Seeds.{loaded}
+use Rattle.space_ends.specs.SeedVerdicts.Seeds.{loaded}
 use Rattle.expectation_files.specs.declared.requirements.Requirements.{Requirements}
 use Rattle.end_kinds.specs.Statuses.{badness}
 use Rattle.end_kinds.specs.declared.statuses.Status.{Status}
 use Rattle.end_kinds.specs.declared.statuses.Status.TheVariants as status
-use Rattle.end_states.specs.Judgements.{status_of_judged}
-use Rattle.end_states.specs.declared.states.EndState.{EndState}
+use Rattle.space_ends.specs.EndStates.Judgements.{status_of_judged}
+use Rattle.space_ends.specs.EndStatesTypes.EndState.{EndState}
 use Rattle.seed_outcomes.specs.Sharing.{AreShared}
 use Rattle.seed_outcomes.specs.SeedLists.{seeds_between}
 use Rattle.seed_outcomes.specs.SeedRuns.{SurveyedProgram, IsSeedRun, EndsSo}

@@ -1,6 +1,6 @@
 -- The seeds of a survey.
 use Rattle.std.specs.Prelude.{ℕ, zero, suc, ◌+◌, ◌-◌, List, [], ◌∷◌}
-use Rattle.seed_verdicts.specs.Seeds.{seed_at}
+use Rattle.space_ends.specs.SeedVerdicts.Seeds.{seed_at}
 
 -- so many seeds from a place on, of those that begin with the first; after the greatest seed comes 0
 abbrev pub seeds_from : ℕ → ℕ → ℕ → List ℕ

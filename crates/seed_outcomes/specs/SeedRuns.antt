@@ -11,13 +11,13 @@ use Rattle.end_kinds.specs.Ends.{IsKindOf}
 use Rattle.expectations.specs.Meeting.{is_met}
 use Rattle.expectations.specs.declared.expectation.Expectation.{Expectation}
 use Rattle.claims.specs.declared.claim.Claim.{Claim}
-use Rattle.schedule_verdicts.specs.RightEnds.{AreTrapsExpected}
-use Rattle.schedule_verdicts.specs.KeptClaims.{AreKeptOnTheWay}
-use Rattle.seed_verdicts.specs.Seeds.{loaded}
-use Rattle.seed_verdicts.specs.RunFlaws.{IsFirstBroken}
-use Rattle.end_states.specs.EndStates.{IsEndState}
-use Rattle.end_states.specs.declared.judgements.EndJudgement.{EndJudgement}
-use Rattle.end_states.specs.declared.states.EndState.{EndState}
+use Rattle.space_ends.specs.ScheduleVerdicts.RightEnds.{AreTrapsExpected}
+use Rattle.space_ends.specs.ScheduleVerdicts.KeptClaims.{AreKeptOnTheWay}
+use Rattle.space_ends.specs.SeedVerdicts.Seeds.{loaded}
+use Rattle.space_ends.specs.SeedVerdicts.RunFlaws.{IsFirstBroken}
+use Rattle.space_ends.specs.EndStates.EndStates.{IsEndState}
+use Rattle.space_ends.specs.EndStatesTypes.EndJudgement.{EndJudgement}
+use Rattle.space_ends.specs.EndStatesTypes.EndState.{EndState}
 use Rattle.seed_outcomes.specs.declared.seed_runs.Surveyed.{Surveyed}
 
 -- a program, what is expected of its ends, what is claimed of all its worlds, how many steps its fair run has, and the most

@@ -1,6 +1,6 @@
 //! Outcomes: ends of one line.
 
-use end_states::{EndJudgement, EndState};
+use space_ends::states::{EndJudgement, EndState};
 
 /// Ends of the runs of seeds that are one line: they agree in their kind, in who waits or was stopped, in the words that
 /// changed, in what is not as expected, and in what is broken on the way.

@@ -5,7 +5,7 @@ ghost use Rattle.seed_outcomes.specs.Outcomes.{AreSameStates, AreOfOneLine};
 
 use crate::outcomes::SeedOutcome;
 use changed_words::ChangedWord;
-use end_states::{EndJudgement, EndState, TrapStop, WaitingStream};
+use space_ends::states::{EndJudgement, EndState, TrapStop, WaitingStream};
 
 /// Whether two outcomes are of one line.
 pub(crate) fn are_of_one_line(one: &SeedOutcome, other: &SeedOutcome) -> bool

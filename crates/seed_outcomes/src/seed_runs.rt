@@ -8,14 +8,14 @@ ghost use Rattle.seed_outcomes.specs.Outcomes.{AreOutcomes};
 use crate::adding::add_outcome;
 use crate::outcomes::SeedOutcome;
 use claims::Claim;
-use end_states::{EndJudgement, judged_end};
 use expectation_files::Requirements;
 use image_file::Image;
 use image_machines::loaded;
 use machine::LoadFault;
 use processor::Step;
 use schedule_makers::seeded;
-use seed_verdicts::first_broken;
+use space_ends::seeds::first_broken;
+use space_ends::states::{EndJudgement, judged_end};
 use std::alloc::{AllocError, Global};
 
 /// A program, what is required of it, and how the schedule of a seed is made of it.

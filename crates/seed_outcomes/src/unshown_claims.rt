@@ -1,13 +1,13 @@
 //! Claims that have to hold of one world at least, by the runs of seeds.
 
 ghost use Rattle.std.specs.Prelude.{IfOk};
-ghost use Rattle.seed_verdicts.specs.ShownBySeeds.{IsToldOfClaims};
+ghost use Rattle.space_ends.specs.SeedVerdicts.ShownBySeeds.{IsToldOfClaims};
 
 use claims::Claim;
 use image_file::Image;
 use image_machines::by_room;
 use machine::LoadFault;
-use seed_verdicts::{Seeds, first_unshown_by_seeds};
+use space_ends::seeds::{Seeds, first_unshown_by_seeds};
 use std::alloc::{AllocError, Global};
 
 /// The place of the first claim that has to hold of one world at least, and that the run of no seed shows.

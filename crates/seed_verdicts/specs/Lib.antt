@@ -4,3 +4,7 @@ pub mod Seeds
 pub mod ShownBySeeds
 -- Cited by private contracts alone: what is told of the parts of a run.
 pub mod EndFlaws
+pub mod ScheduleVerdicts
+pub mod BusyStreams
+pub mod ScheduleSpace
+pub mod ScheduleSpaceTypes

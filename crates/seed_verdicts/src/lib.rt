@@ -13,4 +13,6 @@ mod shown_claims;
 pub use broken_claims::{Broken, first_broken};
 pub use first_flaws::{first_flaw, first_flaw_alone};
 pub use run_flaw::{RunFlaw, SeedFlaw, Seeds};
+pub use schedule_verdicts as verdicts;
+pub use schedule_verdicts::{busy, space};
 pub use shown_claims::first_unshown_by_seeds;

@@ -8,7 +8,7 @@ use Rattle.std.specs.Prelude.{◌==◌, ◌&&◌}
 use Rattle.std.specs.List.{filter, range_with_len}
 use Rattle.std.proofs.lemmas.List.Elements.{filter-append}
 use Rattle.claims.specs.declared.claim.Claim.{Claim}
-use Rattle.schedule_space.specs.Spaces.{SpaceValue}
+use Rattle.seed_verdicts.specs.ScheduleSpace.Spaces.{SpaceValue}
 use Rattle.std.proofs.lemmas.List.{map-append}
 use Rattle.space_ends.specs.declared.end_values.SpaceEnd.{SpaceEnd}
 use Rattle.space_ends.specs.BrokenClaims.{EndValue, value_of, broken_places, broken_before, broken_end, broken_end_of, broken_ends}

@@ -3,3 +3,5 @@ mod Listing
 mod Keeping
 mod Spins
 mod SpinningSets
+pub mod ScheduleSpace
+pub mod ScheduleVerdicts

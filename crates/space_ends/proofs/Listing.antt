@@ -18,12 +18,12 @@ use Rattle.end_kinds.specs.declared.kinds.EndKind.TheVariants as end
 use Rattle.end_states.specs.declared.judgements.EndJudgement.{EndJudgement}
 use Rattle.expectations.specs.declared.expectation.Expectation.{Expectation}
 use Rattle.machine.specs.MachineValue.{MachineValue}
-use Rattle.schedule_verdicts.specs.RightEnds.{AreTrapsExpected}
-use Rattle.schedule_space.specs.Fates.{IsFate, is_end}
-use Rattle.schedule_space.specs.declared.fates.Fate.{Fate}
-use Rattle.schedule_space.specs.declared.fates.Fate.TheVariants as fate
-use Rattle.schedule_space.specs.Spaces.{SpaceValue, count, world_of, schedule_of, machine_after, ShortestFirst}
-use Rattle.schedule_space.specs.Reaching.{IsEnd}
+use Rattle.seed_verdicts.specs.ScheduleVerdicts.RightEnds.{AreTrapsExpected}
+use Rattle.seed_verdicts.specs.ScheduleSpace.Fates.{IsFate, is_end}
+use Rattle.seed_verdicts.specs.ScheduleSpaceTypes.Fate.{Fate}
+use Rattle.seed_verdicts.specs.ScheduleSpaceTypes.Fate.TheVariants as fate
+use Rattle.seed_verdicts.specs.ScheduleSpace.Spaces.{SpaceValue, count, world_of, schedule_of, machine_after, ShortestFirst}
+use Rattle.seed_verdicts.specs.ScheduleSpace.Reaching.{IsEnd}
 use Rattle.space_ends.specs.EndsOfSpace.{ListedEnd, listed_of, missed_in, are_ends, IsJudgedAt, IsListedEnd, times_listed, AreEndsBefore}
 use Rattle.space_ends.specs.EndsOfSpace.{IsShortestShown, AreEndsOf, with_place, first_listed, IsJudgedSo}
 use Rattle.space_ends.specs.Spinning.{are_spinning}

@@ -11,9 +11,9 @@ use Rattle.std.proofs.lemmas.List.{map-append, map-set, get_or-map, length-map, 
 use Rattle.std.proofs.lemmas.List.Elements.{All-nil, All-cons, All-push, All-append, All-set, All-weaker}
 use Rattle.std.proofs.lemmas.List.Elements.{Contains-append_left, Contains-push}
 use Rattle.std.proofs.lemmas.Option.{same_Some}
-use Rattle.schedule_space.specs.Spaces.{SpaceValue, world_of}
+use Rattle.seed_verdicts.specs.ScheduleSpace.Spaces.{SpaceValue, world_of}
 use Rattle.expectations.specs.declared.expectation.Expectation.{Expectation}
-use Rattle.schedule_verdicts.specs.RightEnds.{AreTrapsExpected}
+use Rattle.seed_verdicts.specs.ScheduleVerdicts.RightEnds.{AreTrapsExpected}
 use Rattle.end_states.specs.EndStates.{trap_stops}
 use Rattle.space_ends.specs.EndsOfSpace.{ListedEnd, listed_of, missed_in}
 use Rattle.space_ends.specs.Spinning.{are_spinning, spinning_in}

@@ -6,9 +6,9 @@ use Rattle.std.proofs.lemmas.Bool.{cases_lt}
 use Rattle.std.proofs.lemmas.List.{map-append, map-set, get_or-map, length-map}
 use Rattle.std.proofs.lemmas.List.Elements.{All-nil, All-cons, All-head, All-tail, All-push, All-append, All-weaker, filter-append}
 use Rattle.std.proofs.lemmas.List.Sums.{AllPass-from_list_all}
-use Rattle.schedule_space.specs.Spaces.{SpaceValue, count, world_of, IsComplete, HasAllEdges}
-use Rattle.schedule_space.specs.Followed.{AllFollowed}
-use Rattle.schedule_space.specs.Reaching.{CanEnd, IsMarked}
+use Rattle.seed_verdicts.specs.ScheduleSpace.Spaces.{SpaceValue, count, world_of, IsComplete, HasAllEdges}
+use Rattle.seed_verdicts.specs.ScheduleSpace.Followed.{AllFollowed}
+use Rattle.seed_verdicts.specs.ScheduleSpace.Reaching.{CanEnd, IsMarked}
 use Rattle.space_ends.specs.EndsOfSpace.{ListedEnd, listed_of, are_ends, ends_in}
 use Rattle.space_ends.specs.Spinning.{are_spinning, spinning_in, SpinsAt, SaysWhatCanEnd, AreSpinning, IsUnmarked}
 use Rattle.space_ends.specs.Spinning.{SomeUnmarked, AreUnmarked}

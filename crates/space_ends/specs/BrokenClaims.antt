@@ -5,7 +5,7 @@ use Rattle.processor.specs.World.{start}
 use Rattle.claims.specs.Holding.{holds}
 use Rattle.claims.specs.Breaks.{breaks_from}
 use Rattle.claims.specs.declared.claim.Claim.{Claim}
-use Rattle.schedule_space.specs.Spaces.{SpaceValue, count, world_of}
+use Rattle.seed_verdicts.specs.ScheduleSpace.Spaces.{SpaceValue, count, world_of}
 use Rattle.space_ends.specs.declared.end_values.SpaceEnd.{SpaceEnd}
 use Rattle.space_ends.specs.declared.end_values.SpaceEndKind.{SpaceEndKind}
 use Rattle.space_ends.specs.declared.end_values.SpaceEndKind.TheVariants as kind

@@ -10,9 +10,9 @@ use Rattle.end_kinds.specs.declared.kinds.EndKind.TheVariants as end
 use Rattle.end_states.specs.declared.judgements.EndJudgement.{EndJudgement}
 use Rattle.expectations.specs.Meeting.{is_met}
 use Rattle.expectations.specs.declared.expectation.Expectation.{Expectation}
-use Rattle.schedule_verdicts.specs.RightEnds.{AreTrapsExpected}
-use Rattle.schedule_space.specs.Spaces.{SpaceValue, count, world_of, schedule_of}
-use Rattle.schedule_space.specs.Reaching.{IsEnd}
+use Rattle.seed_verdicts.specs.ScheduleVerdicts.RightEnds.{AreTrapsExpected}
+use Rattle.seed_verdicts.specs.ScheduleSpace.Spaces.{SpaceValue, count, world_of, schedule_of}
+use Rattle.seed_verdicts.specs.ScheduleSpace.Reaching.{IsEnd}
 use Rattle.space_ends.specs.declared.end_values.SpaceEnd.{SpaceEnd}
 use Rattle.space_ends.specs.declared.end_values.SpaceEndKind.{SpaceEndKind}
 use Rattle.space_ends.specs.declared.end_values.SpaceEndKind.TheVariants as kind

@@ -6,3 +6,11 @@ pub mod EndsOfSpace
 pub mod Spinning
 pub mod Judging
 pub mod SpinningSets
+pub mod EndStates
+pub mod EndStatesTypes
+pub mod ScheduleSpace
+pub mod ScheduleSpaceTypes
+pub mod ScheduleVerdicts
+pub mod BusyStreams
+pub mod SeedVerdicts
+pub mod SeedVerdictsTypes

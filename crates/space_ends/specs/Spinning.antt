@@ -2,9 +2,9 @@
 use Rattle.std.specs.Prelude.{◌≡◌, ℕ, ◌<◌, ◌⊎◌, Bool, true, false, List, length, map, slice_index_or}
 use Rattle.std.specs.List.{All, filter}
 use Rattle.end_kinds.specs.declared.kinds.EndKind.TheVariants as end
-use Rattle.schedule_space.specs.Spaces.{SpaceValue, count, world_of, IsComplete, HasAllEdges}
-use Rattle.schedule_space.specs.Followed.{AllFollowed}
-use Rattle.schedule_space.specs.Reaching.{CanEnd}
+use Rattle.seed_verdicts.specs.ScheduleSpace.Spaces.{SpaceValue, count, world_of, IsComplete, HasAllEdges}
+use Rattle.seed_verdicts.specs.ScheduleSpace.Followed.{AllFollowed}
+use Rattle.seed_verdicts.specs.ScheduleSpace.Reaching.{CanEnd}
 use Rattle.space_ends.specs.EndsOfSpace.{ListedEnd, listed_of}
 use Rattle.space_ends.specs.declared.end_values.SpaceEnd.{SpaceEnd}
 use Rattle.space_ends.specs.declared.end_values.SpaceEndKind.{SpaceEndKind}

@@ -3,9 +3,9 @@ use Rattle.std.specs.Prelude.{◌≡◌, ℕ, ◌<◌, ◌≤◌, ◌↔◌, Boo
 use Rattle.std.specs.Prelude.{Option, Some, None, min}
 use Rattle.std.specs.List.{All}
 use Rattle.end_kinds.specs.declared.kinds.EndKind.TheVariants as end
-use Rattle.schedule_space.specs.Spaces.{SpaceValue, world_of}
+use Rattle.seed_verdicts.specs.ScheduleSpace.Spaces.{SpaceValue, world_of}
 use Rattle.expectations.specs.declared.expectation.Expectation.{Expectation}
-use Rattle.schedule_verdicts.specs.RightEnds.{AreTrapsExpected}
+use Rattle.seed_verdicts.specs.ScheduleVerdicts.RightEnds.{AreTrapsExpected}
 use Rattle.end_states.specs.EndStates.{trap_stops}
 use Rattle.end_states.specs.declared.states.TrapStop.{TrapStop}
 use Rattle.space_ends.specs.EndsOfSpace.{missed_in}

@@ -2,7 +2,7 @@
 
 ghost use Rattle.std.specs.Prelude.{◌≡◌, ◌++◌, List, IfOk, OnOk, length, map};
 ghost use Rattle.expectations.specs.declared.expectation.Expectation.{Expectation};
-ghost use Rattle.schedule_space.specs.Spaces.{SpaceValue};
+ghost use Rattle.seed_verdicts.specs.ScheduleSpace.Spaces.{SpaceValue};
 ghost use Rattle.space_ends.specs.BrokenClaims.{broken_places, broken_before, broken_end, broken_end_of, broken_ends, value_of};
 ghost use Rattle.space_ends.specs.EndsOfSpace.{ends_in};
 ghost use Rattle.space_ends.specs.Spinning.{spinning_in};
@@ -13,7 +13,7 @@ use crate::every_end::new_end;
 use claims::Claim;
 use end_states::EndState;
 use image_machines::loaded;
-use schedule_space::{Space, machine_at};
+use seed_verdicts::space::{Space, machine_at};
 use std::alloc::{AllocError, Global};
 
 /// Adds the worlds that break claims, those of each claim as one.

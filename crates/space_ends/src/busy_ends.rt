@@ -4,9 +4,9 @@ ghost use Rattle.std.specs.Prelude.{◌≡◌, IfOk};
 
 use crate::end_values::{SpaceEnd, SpaceEndKind};
 use crate::every_end::new_end;
-use busy_streams::Busy;
 use end_states::EndState;
-use schedule_space::Space;
+use seed_verdicts::busy::Busy;
+use seed_verdicts::space::Space;
 use std::alloc::{AllocError, Global};
 
 /// The world from which a stream loops alone, as an end, with the steps of the loop.

@@ -3,7 +3,7 @@
 use crate::links::links_of;
 use machine::Machine;
 use processor::Step;
-use schedule_space::{Edge, Space};
+use seed_verdicts::space::{Edge, Space};
 use std::alloc::{AllocError, Global};
 use terminal_components::shortest_cycle;
 use waiting::{is_stuck, running_streams};

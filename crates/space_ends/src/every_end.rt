@@ -2,7 +2,7 @@
 
 ghost use Rattle.std.specs.Prelude.{◌≡◌, ◌<◌, [], List, IfOk, OnOk, IsTrue, IsFalse, map};
 ghost use Rattle.expectations.specs.declared.expectation.Expectation.{Expectation};
-ghost use Rattle.schedule_space.specs.Spaces.{SpaceValue, count, schedule_of};
+ghost use Rattle.seed_verdicts.specs.ScheduleSpace.Spaces.{SpaceValue, count, schedule_of};
 ghost use Rattle.space_ends.specs.BrokenClaims.{value_of, HasBrokenEnds};
 ghost use Rattle.space_ends.specs.EndsOfSpace.{listed_of, listed_at, ends_in, AreEndsOf};
 ghost use Rattle.space_ends.specs.Spinning.{spinning_in, AreSpinning};
@@ -14,14 +14,14 @@ use crate::end_values::{SpaceEnd, SpaceEndKind};
 use crate::place_ends::place_ends;
 use crate::sources::sources_of;
 use crate::spinning::add_spinning;
-use busy_streams::Busy;
 use claims::Claim;
 use end_states::EndState;
 use expectations::Expectation;
 use machine::LoadFault;
 use processor::Step;
-use schedule_space::Space;
+use seed_verdicts::busy::Busy;
 use seed_verdicts::first_broken;
+use seed_verdicts::space::Space;
 use std::alloc::{AllocError, Global};
 
 /// What the ends of a space are judged by.

@@ -7,7 +7,7 @@ ghost use Rattle.space_ends.specs.SpinningSets.{earlier, IsFirstMissedBy};
 use expectations::{Expectation, first_missed};
 use machine::Machine;
 use processor::Step;
-use schedule_space::{Space, machine_at};
+use seed_verdicts::space::{Space, machine_at};
 use std::alloc::{AllocError, Global};
 use tag_memory::Word;
 use waiting::{is_stuck, running_streams, wait_of};

@@ -15,7 +15,10 @@ mod spinning;
 mod spinning_lines;
 mod spinning_sets;
 
+pub use end_states as states;
 pub use end_values::{SpaceEnd, SpaceEndKind};
 pub use every_end::{JudgedBy, space_ends};
 pub use going::{Going, GoingStream};
 pub use links::links_of;
+pub use seed_verdicts as seeds;
+pub use seed_verdicts::{busy, space, verdicts};

@@ -3,7 +3,7 @@
 ghost use Rattle.std.specs.Prelude.{◌≡◌, IfOk, map};
 ghost use Rattle.space_ends.specs.Links.{link_of};
 
-use schedule_space::Edge;
+use seed_verdicts::space::Edge;
 use std::alloc::{AllocError, Global};
 use terminal_components::Link;
 

@@ -1,9 +1,9 @@
 //! The ends that are places of a space, those of one line together.
 
 ghost use Rattle.std.specs.Prelude.{◌≡◌, ℕ, ◌+◌, ◌<◌, [], length, map, slice_index_or, IfOk, IfSome, OnOk, IsTrue};
-ghost use Rattle.schedule_space.specs.Fates.{is_end};
-ghost use Rattle.schedule_space.specs.Spaces.{count, world_of, schedule_of};
-ghost use Rattle.schedule_space.specs.Reaching.{IsEnd};
+ghost use Rattle.seed_verdicts.specs.ScheduleSpace.Fates.{is_end};
+ghost use Rattle.seed_verdicts.specs.ScheduleSpace.Spaces.{count, world_of, schedule_of};
+ghost use Rattle.seed_verdicts.specs.ScheduleSpace.Reaching.{IsEnd};
 ghost use Rattle.space_ends.specs.EndsOfSpace.{listed_of, ends_in, with_place, first_listed, AreEndsBefore, AreEndsOf, IsJudgedSo};
 ghost use Rattle.space_ends.specs.Spinning.{spinning_in};
 ghost use Rattle.space_ends.specs.SpinningSets.{AreSpinningSets};
@@ -12,7 +12,7 @@ use crate::end_values::{SpaceEnd, SpaceEndKind};
 use crate::every_end::new_end;
 use end_states::{EndJudgement, JudgedEnd, judged_end};
 use expectations::Expectation;
-use schedule_space::{Fate, Space, machine_at};
+use seed_verdicts::space::{Fate, Space, machine_at};
 use std::alloc::{AllocError, Global};
 
 /// The ends that are places of a space, in the order of their first places: those that agree in kind, in what they show, and

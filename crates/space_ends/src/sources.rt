@@ -1,7 +1,7 @@
 //! From how many worlds some schedule leads to ends.
 
 use crate::end_values::SpaceEnd;
-use schedule_space::{Edge, Space};
+use seed_verdicts::space::{Edge, Space};
 use std::alloc::{AllocError, Global};
 
 /// How many ends are looked at together: each has a bit of the marks.

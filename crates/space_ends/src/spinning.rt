@@ -15,8 +15,8 @@ use changed_words::changed_words;
 use end_kinds::EndKind;
 use end_states::{EndState, trap_stops};
 use expectations::Expectation;
-use schedule_space::{Space, machine_at};
-use schedule_verdicts::are_traps_expected;
+use seed_verdicts::space::{Space, machine_at};
+use seed_verdicts::verdicts::are_traps_expected;
 use std::alloc::{AllocError, Global};
 
 /// The kind of such sets.

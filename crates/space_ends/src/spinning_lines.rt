@@ -3,7 +3,7 @@
 ghost use Rattle.std.specs.Prelude.{◌≡◌, ◌<◌, ◌++◌, List, Bool, length, slice_index_or, IfSome, IsTrue, OnOk};
 ghost use Rattle.std.specs.List.{All};
 ghost use Rattle.expectations.specs.declared.expectation.Expectation.{Expectation};
-ghost use Rattle.schedule_space.specs.Spaces.{SpaceValue};
+ghost use Rattle.seed_verdicts.specs.ScheduleSpace.Spaces.{SpaceValue};
 ghost use Rattle.space_ends.specs.EndsOfSpace.{ends_in};
 ghost use Rattle.space_ends.specs.Spinning.{spinning_in, IsUnmarked, AreUnmarked};
 ghost use Rattle.space_ends.specs.SpinningSets.{set_of, IsSpinningSet, AreSpinningSets, IsOfLine};

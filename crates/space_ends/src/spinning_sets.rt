@@ -5,7 +5,7 @@ ghost use Rattle.std.specs.List.{All, list_all};
 ghost use Rattle.space_ends.specs.Spinning.{IsUnmarked, SomeUnmarked};
 
 use crate::links::links_of;
-use schedule_space::Space;
+use seed_verdicts::space::Space;
 use std::alloc::{AllocError, Global};
 use terminal_components::terminal_roots;
 

@@ -8,9 +8,9 @@ use Rattle.std.specs.Global.{Global}
 use Rattle.std.proofs.lemmas.Bool.{cases_lt}
 use Rattle.std.proofs.lemmas.List.{get_or_append_left, get_or_push, length_push}
 use Rattle.std.proofs.lemmas.List.Elements.{Contains-append_left, Contains-get_or, Contains-push, Contains-push_cases}
-use Rattle.schedule_space.specs.Spaces.{SpaceValue, count}
-use Rattle.space_ends.specs.Links.{link_of}
-use Rattle.space_ends.specs.declared.end_values.SpaceEnd.{SpaceEnd}
+use Rattle.lab_ends.specs.ScheduleSpace.Spaces.{SpaceValue, count}
+use Rattle.lab_ends.specs.SpaceEnds.Links.{link_of}
+use Rattle.lab_ends.specs.SpaceEndsTypes.SpaceEnd.{SpaceEnd}
 use Rattle.space_graphs.specs.Ahead.{AreAhead, AreMarks, IsMarkedIn, AreMarkNumbers}
 
 some_of : {X : Type 0} → (xs : List X) (i : ℕ) → i < length xs → X

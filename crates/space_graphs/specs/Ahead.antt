@@ -5,9 +5,9 @@ use Rattle.std.specs.List.Sorted.{IsStrictlyIncreasing}
 use Rattle.std.specs.Global.{Global}
 use Rattle.terminal_components.specs.declared.links.Link.{Link}
 use Rattle.terminal_components.specs.Reachability.{AreBackwardReachable, IsMarked, ReachesOne}
-use Rattle.schedule_space.specs.Spaces.{SpaceValue, count}
-use Rattle.space_ends.specs.Links.{link_of}
-use Rattle.space_ends.specs.declared.end_values.SpaceEnd.{SpaceEnd}
+use Rattle.lab_ends.specs.ScheduleSpace.Spaces.{SpaceValue, count}
+use Rattle.lab_ends.specs.SpaceEnds.Links.{link_of}
+use Rattle.lab_ends.specs.SpaceEndsTypes.SpaceEnd.{SpaceEnd}
 
 -- from the world at a place some steps between worlds of the space, or none, lead to one of the end
 abbrev pub CanStillCome : SpaceValue → ℕ → SpaceEnd → Type 0

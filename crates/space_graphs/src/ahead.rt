@@ -4,8 +4,8 @@ ghost use Rattle.std.specs.Prelude.{◌↔◌, IfOk, IsTrue, length};
 ghost use Rattle.terminal_components.specs.Reachability.{IsMarked};
 ghost use Rattle.space_graphs.specs.Ahead.{AreEndsAhead, AreMarks, AreMarkNumbers};
 
-use schedule_space::Space;
-use space_ends::{SpaceEnd, links_of};
+use lab_ends::ends_of_space::{SpaceEnd, links_of};
+use lab_ends::space::Space;
 use std::alloc::{AllocError, Global};
 use terminal_components::{Link, places_that_reach};
 

@@ -6,8 +6,8 @@ use crate::paths::taken_edges;
 use crate::sets::groups_of;
 use crate::worlds::{push_steps, push_worlds};
 use lab_ends::EndWords;
-use schedule_space::Space;
-use space_ends::SpaceEnd;
+use lab_ends::ends_of_space::SpaceEnd;
+use lab_ends::space::Space;
 use std::alloc::{AllocError, Global};
 
 /// The most worlds that are drawn.

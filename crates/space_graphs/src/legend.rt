@@ -3,7 +3,7 @@
 use crate::sets::{Groups, colour, numbers_of};
 use crate::texts::{push_ahead, push_shown};
 use lab_ends::EndWords;
-use space_ends::SpaceEnd;
+use lab_ends::ends_of_space::SpaceEnd;
 use std::alloc::{AllocError, Global};
 
 /// Adds the ends in words, and a colour for each group of worlds.

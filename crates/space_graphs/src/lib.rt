@@ -11,3 +11,5 @@ mod worlds;
 
 pub use ahead::ends_ahead;
 pub use graphs::{MOST_DRAWN, graph_of};
+pub use lab_ends as ends_in_words;
+pub use lab_ends::ends_of_space;

@@ -1,8 +1,8 @@
 //! The steps of the schedules to ends.
 
+use lab_ends::ends_of_space::SpaceEnd;
+use lab_ends::space::Edge;
 use processor::Step;
-use schedule_space::Edge;
-use space_ends::SpaceEnd;
 use std::alloc::{AllocError, Global};
 
 /// For each edge whether the schedule of an end takes it. All schedules have so many steps before the first world.

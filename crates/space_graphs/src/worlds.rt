@@ -2,8 +2,8 @@
 
 use crate::sets::{Groups, colour, numbers_of};
 use crate::texts::push_ahead;
-use schedule_space::Edge;
-use space_ends::SpaceEnd;
+use lab_ends::ends_of_space::SpaceEnd;
+use lab_ends::space::Edge;
 use std::alloc::{AllocError, Global};
 
 /// Adds a line for each world: its number, from 1, the ends that it is of, and those that can still be reached.

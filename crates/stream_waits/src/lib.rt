@@ -10,5 +10,6 @@ mod waits;
 
 pub use circles::circle_of;
 pub use places::pc_of;
+pub use step_views as views;
 pub use turns::LastTurn;
 pub use waits::{StreamWait, waits_of};

@@ -4,3 +4,9 @@ pub mod Stuck
 pub mod Waits
 -- Cited by private contracts alone.
 pub mod Deciding
+pub mod Machine
+pub mod Processor
+pub mod ProcessorTypes
+pub mod StreamCore
+pub mod StreamCoreTypes
+pub mod ImageFile

@@ -7,7 +7,9 @@ mod stuck;
 mod waiting_for;
 mod waits;
 
+pub use machine as machines;
 pub use running::{running_streams, runs};
+pub use stream_core as streams;
 pub use stuck::{is_standstill, is_stuck, some_run};
 pub use waiting_for::wait_of;
 pub use waits::{Wait, Wanted};

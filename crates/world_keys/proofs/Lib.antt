@@ -11,3 +11,4 @@ pub mod Worlds
 pub mod Replacing
 pub mod Removing
 pub mod Nexts
+pub mod DeadRegisters

@@ -6,3 +6,4 @@ pub mod StreamNumbers
 pub mod MemoryNumbers
 pub mod WorldKeys
 pub mod Changes
+pub mod DeadRegisters

@@ -12,6 +12,7 @@ mod row_lists;
 mod stream_numbers;
 mod tables;
 
+pub use dead_registers as registers;
 pub use keys::world_key;
 pub use laws::keys_tell_worlds_apart;
 pub use next_keys::{Change, mark_of, next_key};

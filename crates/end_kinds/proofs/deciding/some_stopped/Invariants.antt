@@ -1,6 +1,6 @@
 -- None of the streams that were looked at was stopped.
 use Rattle.std.proofs.Common.{◌≡◌, ◌<◌, ℕ, false}
-use Rattle.processor.specs.declared.steps.Step.{Step}
+use Rattle.waiting.specs.ProcessorTypes.Step.{Step}
 use Rattle.end_kinds.specs.Ends.{stopped_in}
 use Rattle.end_kinds.proofs.deciding.some_stopped.Given as goal
 

@@ -1,7 +1,7 @@
 use Rattle.std.proofs.Common.{◌≡◌, ◌∙◌, Some, false, length, refl, sym, subst, arith, slice_get}
 use Rattle.std.proofs.lemmas.Option.{same_Some, slice_get_read, slice_get_within}
-use Rattle.schedule_verdicts.proofs.Every.{below_more}
-use Rattle.space_ends.specs.declared.end_values.SpaceEnd.{SpaceEnd}
+use Rattle.seed_outcomes.proofs.ScheduleVerdicts.Every.{below_more}
+use Rattle.seed_outcomes.specs.SpaceEndsTypes.SpaceEnd.{SpaceEnd}
 use Rattle.judgements.specs.Flaws.{shows}
 use Rattle.judgements.proofs.end_flaws.found_of.Goals as goal
 

@@ -1,6 +1,6 @@
 -- No end before the place shows the flaw.
 use Rattle.std.proofs.Common.{◌≡◌, ◌<◌, ℕ, Some, false, slice_get}
-use Rattle.space_ends.specs.declared.end_values.SpaceEnd.{SpaceEnd}
+use Rattle.seed_outcomes.specs.SpaceEndsTypes.SpaceEnd.{SpaceEnd}
 use Rattle.judgements.specs.Flaws.{shows}
 use Rattle.judgements.proofs.end_flaws.found_of.Given as goal
 

@@ -4,8 +4,8 @@ use Rattle.std.proofs.Common.{◌≡◌, sym, ap, ◌∙◌, subst, inl, inr, is
 use Rattle.claims.specs.declared.claim.Claim.{Claim}
 use Rattle.expectations.specs.declared.expectation.Expectation.{Expectation}
 use Rattle.program_rules.specs.Keeping.{is_kept}
-use Rattle.schedule_verdicts.specs.RightSpaces.{IsRightOnEachWay}
-use Rattle.schedule_verdicts.specs.ShownClaims.{IsRightThroughout}
+use Rattle.space_ends.specs.ScheduleVerdicts.RightSpaces.{IsRightOnEachWay}
+use Rattle.space_ends.specs.ScheduleVerdicts.ShownClaims.{IsRightThroughout}
 use Rattle.space_ends.specs.BrokenClaims.{value_of, HasBrokenEnds}
 use Rattle.space_ends.specs.SpinningSets.{AreSpinningSets}
 use Rattle.space_ends.specs.EndsOfSpace.{ends_in, AreEndsOf}

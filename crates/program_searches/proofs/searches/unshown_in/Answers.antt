@@ -1,5 +1,5 @@
 use Rattle.std.proofs.Common.{◌≡◌, None, subst}
-use Rattle.schedule_verdicts.specs.ShownClaims.{AreShown, TellsOfClaims}
+use Rattle.space_ends.specs.ScheduleVerdicts.ShownClaims.{AreShown, TellsOfClaims}
 use Rattle.program_searches.proofs.searches.unshown_in.Goals as goal
 
 pub returns-in-Ok-clause-only : goal.returns-in-Ok-clause-only

@@ -1,8 +1,8 @@
 use Rattle.std.proofs.Common.{subst, List}
 use Rattle.expectations.specs.declared.expectation.Expectation.{Expectation}
-use Rattle.schedule_space.specs.Answers.{space_in}
-use Rattle.schedule_verdicts.specs.NamedRegisters.{AreNamed}
-use Rattle.schedule_verdicts.specs.RightSpaces.{IsFollowedForClaims}
+use Rattle.space_ends.specs.ScheduleSpace.Answers.{space_in}
+use Rattle.space_ends.specs.ScheduleVerdicts.NamedRegisters.{AreNamed}
+use Rattle.space_ends.specs.ScheduleVerdicts.RightSpaces.{IsFollowedForClaims}
 use Rattle.program_searches.proofs.Knowing.{of_ends, shown_by, names_known}
 use Rattle.program_searches.proofs.spaces.needed_worlds.Goals as goal
 

@@ -5,8 +5,8 @@ use Rattle.schedule_space.specs.declared.links.Edge.{Edge}
 use Rattle.image_file.specs.ImageValue.{ImageValue}
 use Rattle.machine.specs.MachineValue.{MachineValue}
 use Rattle.processor.specs.World.{steps}
-use Rattle.dead_registers.specs.Clearing.{LiveValue, IsLive}
-use Rattle.local_steps.specs.SettledEndings.{AreSettled}
+use Rattle.world_keys.specs.DeadRegisters.Clearing.{LiveValue, IsLive}
+use Rattle.agreeing_ends.specs.LocalSteps.SettledEndings.{AreSettled}
 use Rattle.schedule_space.specs.Spaces.{SpaceValue, count}
 use Rattle.schedule_space.specs.Finding.{IsExpanded, IsExpanding}
 use Rattle.schedule_space.specs.Kept.{AreKept}

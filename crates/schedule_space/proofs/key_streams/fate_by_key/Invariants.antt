@@ -3,7 +3,7 @@ use Rattle.std.proofs.Common.{◌≡◌, ◌≢◌, true}
 use Rattle.machine.specs.MachineValue.{MachineValue}
 use Rattle.processor.specs.World.{after}
 use Rattle.processor.specs.declared.steps.Step.{Step}
-use Rattle.dead_registers.specs.Clearing.{LiveValue}
+use Rattle.world_keys.specs.DeadRegisters.Clearing.{LiveValue}
 use Rattle.world_keys.specs.Tables.{Extends}
 use Rattle.schedule_space.specs.Before.{IsBefore}
 use Rattle.schedule_space.proofs.key_streams.fate_by_key.Given as goal

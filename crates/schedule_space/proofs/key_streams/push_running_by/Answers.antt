@@ -1,7 +1,7 @@
 use Rattle.std.proofs.Common.{◌≡◌, ◌+◌, ◌<◌, inl, inr, ℕ, refl, ap, subst, arith, get_or, length}
 use Rattle.std.specs.List.{Contains}
 use Rattle.std.proofs.lemmas.Bool.{cases_lt}
-use Rattle.dead_registers.specs.Clearing.{cleared}
+use Rattle.world_keys.specs.DeadRegisters.Clearing.{cleared}
 use Rattle.world_keys.specs.WorldKeys.{processor_in}
 use Rattle.schedule_space.proofs.KeyStreams.{runs_cleared, processor_known, place_by_key, as_many_entries}
 use Rattle.schedule_space.proofs.key_streams.push_running_by.Goals as goal

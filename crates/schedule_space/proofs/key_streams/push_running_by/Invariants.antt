@@ -5,7 +5,7 @@ use Rattle.std.specs.List.{Contains}
 use Rattle.processor.specs.World.{World}
 use Rattle.processor.specs.declared.steps.Step.{Step}
 use Rattle.waiting.specs.Running.{runs_in}
-use Rattle.dead_registers.specs.Clearing.{LiveValue, cleared}
+use Rattle.world_keys.specs.DeadRegisters.Clearing.{LiveValue, cleared}
 use Rattle.world_keys.specs.WorldKeys.{key_of, IsKnown}
 use Rattle.schedule_space.specs.Spaces.{AreAllDifferent}
 use Rattle.schedule_space.proofs.key_streams.push_running_by.Given as goal

@@ -1,6 +1,6 @@
 use Rattle.std.proofs.Common.{◌≡◌, ◌+◌, ◌<◌, length, set, get_or, sym, ap, ◌∙◌, subst, arith, rules}
 use Rattle.processor.specs.World.{World}
-use Rattle.dead_registers.specs.Clearing.{cleared}
+use Rattle.world_keys.specs.DeadRegisters.Clearing.{cleared}
 use Rattle.world_keys.specs.WorldKeys.{key_of, IsKnown}
 use Rattle.schedule_space.proofs.KnownSteps.{key_many, key_is, key_same, key_known, absent_stays}
 use Rattle.schedule_space.specs.Spaces.{machine_by}

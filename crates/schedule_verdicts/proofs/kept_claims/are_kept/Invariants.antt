@@ -1,7 +1,7 @@
 -- The claims hold of each world so far.
 use Rattle.std.proofs.Common.{◌<◌, ℕ}
 use Rattle.std.specs.Prelude.{IsTrue}
-use Rattle.schedule_space.specs.Spaces.{world_of}
+use Rattle.busy_streams.specs.ScheduleSpace.Spaces.{world_of}
 use Rattle.schedule_verdicts.specs.KeptClaims.{all_hold}
 use Rattle.schedule_verdicts.proofs.kept_claims.are_kept.Given as goal
 

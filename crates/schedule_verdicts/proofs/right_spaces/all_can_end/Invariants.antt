@@ -1,6 +1,6 @@
 -- Each of the marks so far is set.
 use Rattle.std.proofs.Common.{◌<◌, ℕ}
-use Rattle.schedule_space.specs.Reaching.{IsMarked}
+use Rattle.busy_streams.specs.ScheduleSpace.Reaching.{IsMarked}
 use Rattle.schedule_verdicts.proofs.right_spaces.all_can_end.Given as goal
 
 abbrev pub invariant-loop-place : goal.invariant-loop-place

@@ -1,7 +1,7 @@
 use Rattle.std.proofs.Common.{rules, ◌↔◌, ◌⊎◌, IsTrue, inl, inr}
 use Rattle.std.proofs.lemmas.Result.{IfOk-weaker}
-use Rattle.schedule_space.specs.Spaces.{IsComplete, HasAllEdges}
-use Rattle.schedule_space.specs.Followed.{AllFollowed, HasAllEnds, TellsWhetherAllEnd}
+use Rattle.busy_streams.specs.ScheduleSpace.Spaces.{IsComplete, HasAllEdges}
+use Rattle.busy_streams.specs.ScheduleSpace.Followed.{AllFollowed, HasAllEnds, TellsWhetherAllEnd}
 use Rattle.schedule_verdicts.specs.KeptClaims.{AreKept}
 use Rattle.schedule_verdicts.specs.NamedRegisters.{AreNamed}
 use Rattle.schedule_verdicts.specs.RightSpaces.{EndsRight, IsRightOnEachWay, IsFollowedForClaims}

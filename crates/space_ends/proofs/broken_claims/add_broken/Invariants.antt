@@ -1,7 +1,7 @@
 -- What was added, with what the other claims add, is what all add; the ends at which runs end and those that spin stay.
 use Rattle.std.proofs.Common.{◌≡◌, ◌++◌, List, map, drop}
 use Rattle.expectations.specs.declared.expectation.Expectation.{Expectation}
-use Rattle.schedule_space.specs.Spaces.{SpaceValue}
+use Rattle.seed_verdicts.specs.ScheduleSpace.Spaces.{SpaceValue}
 use Rattle.space_ends.specs.BrokenClaims.{broken_ends, value_of}
 use Rattle.space_ends.specs.EndsOfSpace.{ends_in}
 use Rattle.space_ends.specs.Spinning.{spinning_in}

@@ -1,7 +1,7 @@
 use Rattle.std.proofs.Common.{◌≡◌, ap, ◌∙◌, true, false, arith}
 use Rattle.std.specs.Prelude.{not}
 use Rattle.claims.specs.Holding.{holds}
-use Rattle.schedule_space.specs.Spaces.{world_of}
+use Rattle.seed_verdicts.specs.ScheduleSpace.Spaces.{world_of}
 use Rattle.machine.specs.MachineValue.{MachineValue}
 use Rattle.space_ends.proofs.Broken.{kept_more, left_more}
 use Rattle.space_ends.proofs.broken_claims.places_that_break.Goals as goal

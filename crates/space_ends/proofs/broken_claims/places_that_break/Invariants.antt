@@ -3,7 +3,7 @@ use Rattle.std.proofs.Common.{◌≡◌}
 use Rattle.std.specs.Prelude.{not}
 use Rattle.std.specs.List.{filter, range_with_len}
 use Rattle.claims.specs.Holding.{holds}
-use Rattle.schedule_space.specs.Spaces.{world_of}
+use Rattle.seed_verdicts.specs.ScheduleSpace.Spaces.{world_of}
 use Rattle.space_ends.proofs.broken_claims.places_that_break.Given as goal
 
 abbrev pub invariant-loop-place : goal.invariant-loop-place

@@ -1,5 +1,5 @@
 use Rattle.std.proofs.Common.{◌≡◌, ◌+◌, ◌<◌, ◌∙◌, sym, subst, map, arith, List, Vec, Global, rules}
-use Rattle.schedule_space.specs.Spaces.{count, world_of}
+use Rattle.seed_verdicts.specs.ScheduleSpace.Spaces.{count, world_of}
 use Rattle.space_ends.specs.EndsOfSpace.{listed_of, AreEndsBefore}
 use Rattle.space_ends.specs.declared.end_values.SpaceEnd.{SpaceEnd}
 use Rattle.space_ends.proofs.Listing.{none_yet, passed, all_places, none_spins, fate_ends, fate_goes_on}

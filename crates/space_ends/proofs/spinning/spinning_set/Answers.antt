@@ -2,8 +2,8 @@ use Rattle.std.proofs.Common.{◌≡◌, ◌∙◌, ◌<◌, ℕ, List, length, 
 use Rattle.std.specs.Prelude.{◌↔◌, IsFalse, not, slice_index}
 use Rattle.processor.specs.World.{World}
 use Rattle.machine.specs.MachineValue.{MachineValue}
-use Rattle.schedule_space.specs.Spaces.{world_of}
-use Rattle.schedule_verdicts.specs.RightEnds.{AreTrapsExpected}
+use Rattle.seed_verdicts.specs.ScheduleSpace.Spaces.{world_of}
+use Rattle.seed_verdicts.specs.ScheduleVerdicts.RightEnds.{AreTrapsExpected}
 use Rattle.end_states.specs.EndStates.{trap_stops}
 use Rattle.end_states.specs.declared.states.EndState.{EndState}
 use Rattle.space_ends.specs.SpinningSets.{IsFirstMissedBy}

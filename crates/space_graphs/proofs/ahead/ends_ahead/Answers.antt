@@ -2,8 +2,8 @@ use Rattle.std.proofs.Common.{slice_index_or, ◌≡◌, ℕ, ◌+◌, ◌<◌, 
 use Rattle.std.specs.Prelude.{Vec}
 use Rattle.std.specs.List.{HoldsAt}
 use Rattle.std.specs.Global.{Global}
-use Rattle.schedule_space.specs.Spaces.{count}
-use Rattle.space_ends.specs.Links.{link_of}
+use Rattle.lab_ends.specs.ScheduleSpace.Spaces.{count}
+use Rattle.lab_ends.specs.SpaceEnds.Links.{link_of}
 use Rattle.space_graphs.specs.Ahead.{AreNumbersIn, AreMarks}
 use Rattle.space_graphs.proofs.EndsAhead.{each_more, ahead_at}
 use Rattle.space_graphs.proofs.ahead.ends_ahead.Goals as goal

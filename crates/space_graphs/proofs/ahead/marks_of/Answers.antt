@@ -4,7 +4,7 @@ use Rattle.std.specs.List.{HoldsAt}
 use Rattle.std.specs.Global.{Global}
 use Rattle.std.proofs.lemmas.List.{get_or_default}
 use Rattle.terminal_components.specs.Reachability.{AreBackwardReachable}
-use Rattle.space_ends.specs.declared.end_values.SpaceEnd.{SpaceEnd}
+use Rattle.lab_ends.specs.SpaceEndsTypes.SpaceEnd.{SpaceEnd}
 use Rattle.space_graphs.specs.Ahead.{IsOfEnd}
 use Rattle.space_graphs.proofs.EndsAhead.{each_more}
 use Rattle.space_graphs.proofs.ahead.marks_of.Goals as goal

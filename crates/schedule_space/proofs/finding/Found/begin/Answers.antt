@@ -1,6 +1,6 @@
 use Rattle.std.proofs.Common.{rules, arith, sym, ap, ◌∙◌, subst}
 use Rattle.machine.specs.MachineValue.{MachineValue}
-use Rattle.dead_registers.specs.Clearing.{LiveValue}
+use Rattle.world_keys.specs.DeadRegisters.Clearing.{LiveValue}
 use Rattle.schedule_space.specs.Spaces.{machine_after}
 use Rattle.schedule_space.specs.Finding.{space_of, IsFound}
 use Rattle.schedule_space.specs.StreamSteps.{AreAllLeft}

@@ -4,7 +4,7 @@ use Rattle.std.specs.Prelude.{IfSome}
 use Rattle.image_file.specs.ImageValue.{ImageValue}
 use Rattle.machine.specs.MachineValue.{MachineValue}
 use Rattle.processor.specs.World.{after}
-use Rattle.dead_registers.specs.Clearing.{cleared}
+use Rattle.world_keys.specs.DeadRegisters.Clearing.{cleared}
 use Rattle.world_keys.specs.Tables.{place_in, Has}
 use Rattle.world_keys.specs.WorldKeys.{key_of, IsKnown}
 use Rattle.schedule_space.specs.Spaces.{SpaceValue, count, schedule_of, machine_after, machine_by, StandsFor}

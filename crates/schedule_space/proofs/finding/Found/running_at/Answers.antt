@@ -1,6 +1,6 @@
 use Rattle.std.proofs.Common.{◌≡◌, ◌+◌, ◌∙◌, sym, ap, subst, refl, Some, slice_get, length, option_copied}
 use Rattle.image_file.specs.ImageValue.{ImageValue}
-use Rattle.dead_registers.specs.Clearing.{cleared}
+use Rattle.world_keys.specs.DeadRegisters.Clearing.{cleared}
 use Rattle.world_keys.specs.WorldKeys.{key_of, IsKnown}
 use Rattle.schedule_space.specs.Spaces.{SpaceValue}
 use Rattle.schedule_space.specs.Finding.{space_of}

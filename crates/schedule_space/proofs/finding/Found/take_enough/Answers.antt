@@ -2,7 +2,7 @@ use Rattle.std.proofs.Common.{sym, arith, rules, inr, refl, subst, get_or}
 use Rattle.std.specs.Prelude.{OnOk, List}
 use Rattle.image_file.specs.ImageValue.{ImageValue}
 use Rattle.processor.specs.declared.steps.Step.{Step}
-use Rattle.local_steps.specs.SettledEndings.{AreSettled}
+use Rattle.agreeing_ends.specs.LocalSteps.SettledEndings.{AreSettled}
 use Rattle.schedule_space.specs.Kept.{AreKeptAt}
 use Rattle.schedule_space.specs.Spaces.{AreAllDifferent}
 use Rattle.schedule_space.specs.Finding.{IsExpanding, HasNoEdge, HaveNoEdges}

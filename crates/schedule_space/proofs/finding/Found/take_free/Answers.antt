@@ -1,7 +1,7 @@
 use Rattle.std.proofs.Common.{sym, subst, rules, IsTrue}
 use Rattle.machine.specs.MachineValue.{MachineValue}
-use Rattle.local_steps.specs.SettledEndings.{AreSettled}
-use Rattle.local_steps.specs.FreeSteps.{IsFreeStep}
+use Rattle.agreeing_ends.specs.LocalSteps.SettledEndings.{AreSettled}
+use Rattle.agreeing_ends.specs.LocalSteps.FreeSteps.{IsFreeStep}
 use Rattle.schedule_space.specs.Spaces.{schedule_of, machine_after}
 use Rattle.schedule_space.proofs.Alone.{quiet_at}
 use Rattle.schedule_space.proofs.Placing.{lent_is}

@@ -1,6 +1,6 @@
 use Rattle.std.proofs.Common.{subst}
 use Rattle.std.specs.List.{Contains}
-use Rattle.dead_registers.specs.Clearing.{IsLive}
+use Rattle.world_keys.specs.DeadRegisters.Clearing.{IsLive}
 use Rattle.schedule_space.specs.declared.links.Edge.{Edge}
 use Rattle.schedule_space.specs.Spaces.{SpaceValue, AreAllDifferent, IsEdgeToStandIn}
 use Rattle.schedule_space.proofs.spaces.Space.edges.Goals as goal

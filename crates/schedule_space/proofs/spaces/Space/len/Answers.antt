@@ -1,5 +1,5 @@
 use Rattle.std.proofs.Common.{subst}
-use Rattle.dead_registers.specs.Clearing.{IsLive}
+use Rattle.world_keys.specs.DeadRegisters.Clearing.{IsLive}
 use Rattle.schedule_space.specs.Spaces.{SpaceValue, ShortestFirst}
 use Rattle.schedule_space.proofs.spaces.Space.len.Goals as goal
 

@@ -2,7 +2,7 @@ use Rattle.std.proofs.Common.{◌≡◌, ◌∙◌, ℕ, ◌+◌, ◌++◌, [], 
 use Rattle.std.proofs.Math.ListN.{take}
 use Rattle.std.specs.Prelude.{slice_index}
 use Rattle.machine.specs.MachineValue.{MachineValue}
-use Rattle.schedule_space.specs.Spaces.{world_of}
+use Rattle.seed_verdicts.specs.ScheduleSpace.Spaces.{world_of}
 use Rattle.space_ends.specs.EndsOfSpace.{missed_in}
 use Rattle.space_ends.specs.SpinningSets.{earlier, IsFirstMissedBy}
 use Rattle.space_ends.proofs.SpinningSets.{missed_by_more, take_more}

@@ -1,0 +1,3 @@
+-- Lemmas of agreeing_ends that callers name, passed on.
+pub use Rattle.schedule_space.proofs.AgreeingEnds.Keeping
+pub use Rattle.schedule_space.proofs.AgreeingEnds.Moving

@@ -1,0 +1,3 @@
+pub mod SpaceEnds
+pub mod SpaceEndsTypes
+pub mod ScheduleSpace

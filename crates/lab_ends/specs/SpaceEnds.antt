@@ -1,0 +1,2 @@
+-- Definitions of space_ends that callers name, passed on.
+pub use Rattle.space_ends.specs.Links

@@ -1,0 +1,2 @@
+-- Types of space_ends that callers name, passed on.
+pub use Rattle.space_ends.specs.declared.end_values.SpaceEnd

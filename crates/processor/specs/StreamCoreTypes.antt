@@ -1,0 +1,2 @@
+-- Types of stream_core that callers name, passed on.
+pub use Rattle.stream_core.specs.declared.steps.Outcome

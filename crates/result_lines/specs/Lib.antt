@@ -1,0 +1,2 @@
+pub mod GradeReportsTypes
+pub mod JudgementsTypes

@@ -1,0 +1,3 @@
+-- Definitions of agreeing_ends that callers name, passed on.
+pub use Rattle.agreeing_ends.specs.Followed
+pub use Rattle.agreeing_ends.specs.Unseen

@@ -1,0 +1,2 @@
+-- Definitions of schedule_verdicts that callers name, passed on.
+pub use Rattle.space_ends.specs.ScheduleVerdicts.ShownClaims

@@ -1,0 +1,3 @@
+-- Types of seed_verdicts that callers name, passed on.
+pub use Rattle.space_ends.specs.SeedVerdictsTypes.RunFlaw
+pub use Rattle.space_ends.specs.SeedVerdictsTypes.Seeds

@@ -1,0 +1,3 @@
+-- Types of space_ends that callers name, passed on.
+pub use Rattle.space_ends.specs.declared.end_values.SpaceEnd
+pub use Rattle.space_ends.specs.declared.end_values.SpaceEndKind

@@ -1,0 +1,7 @@
+-- Definitions of schedule_space that callers name, passed on.
+pub use Rattle.schedule_verdicts.specs.ScheduleSpace.Answers
+pub use Rattle.schedule_verdicts.specs.ScheduleSpace.Fates
+pub use Rattle.schedule_verdicts.specs.ScheduleSpace.Followed
+pub use Rattle.schedule_verdicts.specs.ScheduleSpace.Quiet
+pub use Rattle.schedule_verdicts.specs.ScheduleSpace.Reaching
+pub use Rattle.schedule_verdicts.specs.ScheduleSpace.Spaces

@@ -1,0 +1,2 @@
+-- Definitions of machine that callers name, passed on.
+pub use Rattle.machine.specs.MachineValue
