@@ -2,7 +2,8 @@
 """The table "Crates, lowest first" of docs/ARCHITECTURE.md, made of crates.txt and of what the crates' own documents say.
 
   crates.py table   writes it
-  crates.py check   says where the document has another one, and which edges of crates.txt no source of the lab names
+  crates.py check   says where the document has another one, which edges of crates.txt no source of the lab names, and
+                    where there are too many ways through it
 
 crates.txt has headings, lines "# == HEADING"; each becomes a part of the table. What a crate does is the first sentence
 of its README.md. A crate that `mta_sim` needs is marked so."""
@@ -15,6 +16,8 @@ ROOT = os.path.dirname(os.path.dirname(os.path.abspath(__file__)))
 DOCUMENT = f"{ROOT}/docs/ARCHITECTURE.md"
 # the heading from which on crates are not part of the proved core
 FIRST_OF_LAB = "What the lab says and shows"
+# how many ways may lead from the libraries down: the kit follows each of them twice, and reads the files on it
+MOST_WAYS = 250_000
 TABLE = re.compile(r"(?s)(## Crates, lowest first\n\n).*?(?=\n\n## )")
 
 
@@ -89,13 +92,26 @@ def unnamed():
                     yield f"crates.txt: no source of {name} names {it}"
 
 
+def too_many_ways():
+    """What to do where more ways lead down from the libraries than the gate has time for."""
+    ways = {}
+    for _, crates in parts():
+        for name, used in crates:
+            ways[name] = 1 + sum(ways.get(it, 0) for it in used)
+    libraries = {name: count for name, count in ways.items() if not os.path.exists(f"{ROOT}/crates/{name}/src/main.rt")}
+    total, most = sum(libraries.values()), sorted(libraries, key=libraries.get)[-3:]
+    if total > MOST_WAYS:
+        yield (f"crates.txt: {total} ways lead down from its libraries, and {MOST_WAYS} are the most; from {', '.join(most)} "
+               "the most of all. Let a crate pass on what its callers use (docs/ARCHITECTURE.md, \"What a crate passes on\")")
+
+
 def main():
     text = read(DOCUMENT)
     made = TABLE.sub(lambda found: found[1] + table(), text)
     if sys.argv[1:] == ["check"]:
         if made != text:
             print("docs/ARCHITECTURE.md has another table of crates: make crates writes it")
-        print(*unnamed(), sep="\n", end="")
+        print(*unnamed(), *too_many_ways(), sep="\n", end="")
     elif sys.argv[1:] == ["table"]:
         with open(DOCUMENT, "w", encoding="utf-8") as file:
             file.write(made)
