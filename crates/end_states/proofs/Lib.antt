@@ -1,3 +1,4 @@
 mod Stops
 mod Waits
 mod RightEnds
+mod EqualTests

@@ -92,3 +92,9 @@ pub record IsEndState (m : MachineValue) (state : EndState) : Type 0 where
   pub stopped : state.stopped.items ≡ trap_stops m.world
   pub waiting : state.waiting.items ≡ waiting_streams m
   pub changed : state.changed.items ≡ changed_words m.image m.world.memory
+
+-- Two ends show the same.
+pub record AreSameStates (one other : EndState) : Type 0 where
+  pub stopped : one.stopped.items ≡ other.stopped.items
+  pub waiting : one.waiting.items ≡ other.waiting.items
+  pub changed : one.changed.items ≡ other.changed.items

@@ -4,8 +4,10 @@
 
 mod judgements;
 mod judging;
+mod same_states;
 mod states;
 
 pub use judgements::EndJudgement;
 pub use judging::{JudgedEnd, judged_end};
+pub use same_states::are_same_states;
 pub use states::{EndState, TrapStop, WaitingStream, end_state_of, trap_stops};

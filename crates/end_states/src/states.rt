@@ -30,7 +30,7 @@ pub struct WaitingStream {
 }
 
 /// What the world shows at which a run ended.
-#[derive(Drop, PartialEq)]
+#[derive(Drop)]
 pub struct EndState {
     /// The streams that a trap stopped, in the order of processor and stream.
     pub stopped: Vec<TrapStop>,

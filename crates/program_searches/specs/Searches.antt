@@ -15,7 +15,7 @@ use Rattle.expectation_files.specs.declared.requirements.Requirements.{Requireme
 use Rattle.space_ends.specs.BrokenClaims.{value_of, HasBrokenEnds}
 use Rattle.space_ends.specs.EndsOfSpace.{ends_in, AreEndsOf}
 use Rattle.space_ends.specs.Spinning.{spinning_in, AreSpinning}
-use Rattle.space_ends.specs.SpinningSets.{AreSpinningSets}
+use Rattle.space_ends.specs.Shown.{AreShownSo}
 use Rattle.program_searches.specs.declared.bounds.SearchBound.{SearchBound}
 use Rattle.program_searches.specs.declared.bounds.SearchBound.TheVariants as bound
 use Rattle.program_searches.specs.declared.explored.Explored.{Explored}
@@ -91,7 +91,7 @@ pub record IsExplored (i : ImageValue) (asked : ProgramSearch) (e : Explored) : 
   -- Of another one none is.
   pub unknown : IsFalse e.is_complete → spinning_in e.ends.items ≡ []
   -- A listed set that spins shows the traps of its first world, and misses the first expectation that one of its worlds does.
-  pub sets : AreSpinningSets e.space asked.required.now.ends.items e.ends.items
+  pub shown : AreShownSo e.space asked.required.now.ends.items e.ends.items
   -- The last of its ends are those of the claims that are broken, with the worlds that break them.
   pub broken : HasBrokenEnds e.space asked.required.now.claims.items (map value_of e.ends.items)
   -- The rule that is reported is the first one that the program breaks.

@@ -1,9 +1,10 @@
 -- Outcomes of one line, and runs that end as an outcome says.
 use Rattle.std.proofs.Common.{ℕ, refl, sym, ◌∙◌, subst}
+use Rattle.space_ends.specs.EndStates.EndStates.{AreSameStates}
 use Rattle.space_ends.specs.EndStatesTypes.EndJudgement.{EndJudgement}
 use Rattle.space_ends.specs.EndStatesTypes.EndState.{EndState}
 use Rattle.seed_outcomes.specs.SeedRuns.{SurveyedProgram, IsSeedRun, EndsSo}
-use Rattle.seed_outcomes.specs.Outcomes.{AreSameStates, AreOfOneLine}
+use Rattle.seed_outcomes.specs.Outcomes.{AreOfOneLine}
 use Rattle.seed_outcomes.specs.declared.outcomes.SeedOutcome.{SeedOutcome}
 
 pub same_sym : (s t : EndState) → AreSameStates s t → AreSameStates t s

@@ -2,7 +2,7 @@
 use Rattle.std.specs.Prelude.{◌≡◌, ℕ, List, Some, slice_get}
 use Rattle.space_ends.specs.declared.end_values.SpaceEnd.{SpaceEnd}
 use Rattle.space_ends.specs.declared.end_values.SpaceEndKind.TheVariants as kind
-use Rattle.seed_outcomes.specs.Outcomes.{AreSameStates}
+use Rattle.space_ends.specs.EndStates.EndStates.{AreSameStates}
 use Rattle.seed_outcomes.specs.declared.outcomes.SeedOutcome.{SeedOutcome}
 
 -- An outcome is an end of every schedule: both are judged alike, whatever is broken on the way, and show the same.

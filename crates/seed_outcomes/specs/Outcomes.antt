@@ -8,19 +8,13 @@ use Rattle.expectation_files.specs.declared.requirements.Requirements.{Requireme
 use Rattle.end_kinds.specs.Statuses.{badness}
 use Rattle.end_kinds.specs.declared.statuses.Status.{Status}
 use Rattle.end_kinds.specs.declared.statuses.Status.TheVariants as status
+use Rattle.space_ends.specs.EndStates.EndStates.{AreSameStates}
 use Rattle.space_ends.specs.EndStates.Judgements.{status_of_judged}
-use Rattle.space_ends.specs.EndStatesTypes.EndState.{EndState}
 use Rattle.seed_outcomes.specs.Sharing.{AreShared}
 use Rattle.seed_outcomes.specs.SeedLists.{seeds_between}
 use Rattle.seed_outcomes.specs.SeedRuns.{SurveyedProgram, IsSeedRun, EndsSo}
 use Rattle.seed_outcomes.specs.declared.outcomes.SeedOutcome.{SeedOutcome}
 use Rattle.seed_outcomes.specs.declared.surveys.SurveySeeds.{SurveySeeds}
-
--- Two ends show the same.
-pub record AreSameStates (one other : EndState) : Type 0 where
-  pub stopped : one.stopped.items ≡ other.stopped.items
-  pub waiting : one.waiting.items ≡ other.waiting.items
-  pub changed : one.changed.items ≡ other.changed.items
 
 -- Two outcomes are of one line: they are judged alike, and show the same.
 pub record AreOfOneLine (one other : SeedOutcome) : Type 0 where

@@ -4,8 +4,8 @@ ghost use Rattle.std.specs.Prelude.{◌≡◌, ◌↔◌, IsTrue, Some};
 ghost use Rattle.seed_outcomes.specs.Coverage.{IsMetBy, IsMet, IsReported, IsBrokenBySome};
 
 use crate::outcomes::SeedOutcome;
-use crate::same_lines::are_same_states;
 use end_kinds::EndKind;
+use space_ends::states::are_same_states;
 use space_ends::{SpaceEnd, SpaceEndKind};
 
 /// Whether some outcome is an end of all schedules: both agree in their kind, in the first expectation that is missed, in

@@ -2,6 +2,6 @@ mod Broken
 mod Listing
 mod Keeping
 mod Spins
-mod SpinningSets
+mod Shown
 pub mod ScheduleSpace
 pub mod ScheduleVerdicts

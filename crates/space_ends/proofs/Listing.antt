@@ -199,14 +199,14 @@ shortest v expected e in_order is i d below =
     let shown = in_order (slice_index e.places 0) (get_or e.places i d) least (is.within i d below) in
     omega (arith, same, shown)
 
-kind_ends : (image : ImageValue) (w : World) (k : EndKind) → IsKindOf image w k → are_ends (kind.End k) ≡ true
+pub kind_ends : (image : ImageValue) (w : World) (k : EndKind) → IsKindOf image w k → are_ends (kind.End k) ≡ true
 kind_ends image w end.Finished is = refl
 kind_ends image w end.Stopped is = refl
 kind_ends image w end.Deadlock is = refl
 kind_ends image w end.Spinning is = absurd is
 kind_ends image w end.OutOfSteps is = refl
 
-not_spinning : (k : SpaceEndKind) → are_ends k ≡ true → are_spinning k ≡ false
+pub not_spinning : (k : SpaceEndKind) → are_ends k ≡ true → are_spinning k ≡ false
 not_spinning (kind.End end.Finished) is = refl
 not_spinning (kind.End end.Stopped) is = refl
 not_spinning (kind.End end.Deadlock) is = refl

@@ -1,8 +1,4 @@
 -- Types of end_states that callers name, passed on.
 pub use Rattle.end_states.specs.contracts.judgements.EndJudgementPartialEq
-pub use Rattle.end_states.specs.contracts.states.TrapStopPartialEq
-pub use Rattle.end_states.specs.contracts.states.WaitingStreamPartialEq
 pub use Rattle.end_states.specs.declared.judgements.EndJudgement
 pub use Rattle.end_states.specs.declared.states.EndState
-pub use Rattle.end_states.specs.declared.states.TrapStop
-pub use Rattle.end_states.specs.declared.states.WaitingStream

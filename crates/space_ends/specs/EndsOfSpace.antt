@@ -7,7 +7,9 @@ use Rattle.processor.specs.declared.steps.Step.{Step}
 use Rattle.end_kinds.specs.Ends.{IsKindOf}
 use Rattle.end_kinds.specs.declared.kinds.EndKind.{EndKind}
 use Rattle.end_kinds.specs.declared.kinds.EndKind.TheVariants as end
+use Rattle.end_states.specs.EndStates.{AreSameStates}
 use Rattle.end_states.specs.declared.judgements.EndJudgement.{EndJudgement}
+use Rattle.end_states.specs.declared.states.EndState.{EndState}
 use Rattle.expectations.specs.Meeting.{is_met}
 use Rattle.expectations.specs.declared.expectation.Expectation.{Expectation}
 use Rattle.seed_verdicts.specs.ScheduleVerdicts.RightEnds.{AreTrapsExpected}
@@ -130,3 +132,8 @@ pub record IsJudgedSo (e : ListedEnd) (j : EndJudgement) : Type 0 where
   pub kind : e.kind ≡ kind.End j.kind
   pub missed : e.missed ≡ j.missed
   pub traps : e.is_trapped ≡ j.is_trapped
+
+-- A listed end is of the line of one that is judged so and shows this.
+pub record IsOfEndLine (e : SpaceEnd) (j : EndJudgement) (s : EndState) : Type 0 where
+  pub judged : IsJudgedSo (listed_of e) j
+  pub state : AreSameStates e.state s

@@ -5,7 +5,7 @@ pub mod BrokenClaims
 pub mod EndsOfSpace
 pub mod Spinning
 pub mod Judging
-pub mod SpinningSets
+pub mod Shown
 pub mod EndStates
 pub mod EndStatesTypes
 pub mod ScheduleSpace

@@ -6,7 +6,7 @@ ghost use Rattle.seed_verdicts.specs.ScheduleSpace.Spaces.{SpaceValue};
 ghost use Rattle.space_ends.specs.BrokenClaims.{broken_places, broken_before, broken_end, broken_end_of, broken_ends, value_of};
 ghost use Rattle.space_ends.specs.EndsOfSpace.{ends_in};
 ghost use Rattle.space_ends.specs.Spinning.{spinning_in};
-ghost use Rattle.space_ends.specs.SpinningSets.{AreSpinningSets};
+ghost use Rattle.space_ends.specs.Shown.{AreShownSo};
 
 use crate::end_values::{SpaceEnd, SpaceEndKind};
 use crate::every_end::new_end;
@@ -27,8 +27,8 @@ pub(crate) fn add_broken<const S: usize>(
         ++ broken_ends space.now 0 claims.now) }
     ensures ends { OnOk result (ends_in ends.new.items ≡ ends_in ends.old.items) }
     ensures spinning { OnOk result (spinning_in ends.new.items ≡ spinning_in ends.old.items) }
-    ensures sets { OnOk result ((v : SpaceValue) (expected : List Expectation)
-        → AreSpinningSets v expected ends.old.items → AreSpinningSets v expected ends.new.items) }
+    ensures shown { OnOk result ((v : SpaceValue) (expected : List Expectation)
+        → AreShownSo v expected ends.old.items → AreShownSo v expected ends.new.items) }
 {
     for index in 0..claims.len() {
         add_if_broken::<S>(alloc, ends, index, &claims[index], space)?;
@@ -48,8 +48,8 @@ fn add_if_broken<const S: usize>(
         ++ broken_end_of space.now index claim.now) }
     ensures ends { OnOk result (ends_in ends.new.items ≡ ends_in ends.old.items) }
     ensures spinning { OnOk result (spinning_in ends.new.items ≡ spinning_in ends.old.items) }
-    ensures sets { OnOk result ((v : SpaceValue) (expected : List Expectation)
-        → AreSpinningSets v expected ends.old.items → AreSpinningSets v expected ends.new.items) }
+    ensures shown { OnOk result ((v : SpaceValue) (expected : List Expectation)
+        → AreShownSo v expected ends.old.items → AreShownSo v expected ends.new.items) }
 {
     let places = places_that_break::<S>(alloc, claim, space)?;
     let before = breaks_before::<S>(alloc, claim, space)?;

@@ -1,12 +1,12 @@
 //! The ends of a space.
 
-ghost use Rattle.std.specs.Prelude.{◌≡◌, ◌<◌, [], List, IfOk, OnOk, IsTrue, IsFalse, map};
+ghost use Rattle.std.specs.Prelude.{◌≡◌, ◌<◌, [], ◌∷◌, List, IfOk, OnOk, IsTrue, IsFalse, map};
 ghost use Rattle.expectations.specs.declared.expectation.Expectation.{Expectation};
 ghost use Rattle.seed_verdicts.specs.ScheduleSpace.Spaces.{SpaceValue, count, schedule_of};
 ghost use Rattle.space_ends.specs.BrokenClaims.{value_of, HasBrokenEnds};
 ghost use Rattle.space_ends.specs.EndsOfSpace.{listed_of, listed_at, ends_in, AreEndsOf};
 ghost use Rattle.space_ends.specs.Spinning.{spinning_in, AreSpinning};
-ghost use Rattle.space_ends.specs.SpinningSets.{set_of, AreSpinningSets};
+ghost use Rattle.space_ends.specs.Shown.{shown_of, AreShownSo};
 
 use crate::broken_claims::add_broken;
 use crate::busy_ends::busy_end;
@@ -46,7 +46,7 @@ pub fn space_ends<const S: usize>(
     ensures ends { IfOk result (λ ends. AreEndsOf space.now judged_by.entry.expected.now (ends_in ends.items)) }
     ensures spinning { IfOk result (λ ends. IsTrue is_complete → AreSpinning space.now (spinning_in ends.items)) }
     ensures unknown { IfOk result (λ ends. IsFalse is_complete → spinning_in ends.items ≡ []) }
-    ensures sets { IfOk result (λ ends. AreSpinningSets space.now judged_by.entry.expected.now ends.items) }
+    ensures shown { IfOk result (λ ends. AreShownSo space.now judged_by.entry.expected.now ends.items) }
     ensures broken { IfOk result (λ ends. HasBrokenEnds space.now judged_by.entry.claims.now (map value_of ends.items)) }
 {
     let mut ends = unbroken_ends::<S>(alloc, judged_by.expected, space, is_complete)?;
@@ -66,7 +66,7 @@ fn unbroken_ends<const S: usize>(
     ensures ends { IfOk result (λ ends. AreEndsOf space.now expected.now (ends_in ends.items)) }
     ensures spinning { IfOk result (λ ends. IsTrue is_complete → AreSpinning space.now (spinning_in ends.items)) }
     ensures unknown { IfOk result (λ ends. IsFalse is_complete → spinning_in ends.items ≡ []) }
-    ensures sets { IfOk result (λ ends. AreSpinningSets space.now expected.now ends.items) }
+    ensures shown { IfOk result (λ ends. AreShownSo space.now expected.now ends.items) }
 {
     let mut ends = place_ends::<S>(alloc, expected, space)?;
     if !is_complete {
@@ -85,8 +85,8 @@ fn add_busy(
 ) -> Result<(), AllocError>
     ensures ends { OnOk result (ends_in ends.new.items ≡ ends_in ends.old.items) }
     ensures spinning { OnOk result (spinning_in ends.new.items ≡ spinning_in ends.old.items) }
-    ensures sets { OnOk result ((v : SpaceValue) (expected : List Expectation)
-        → AreSpinningSets v expected ends.old.items → AreSpinningSets v expected ends.new.items) }
+    ensures shown { OnOk result ((v : SpaceValue) (expected : List Expectation)
+        → AreShownSo v expected ends.old.items → AreShownSo v expected ends.new.items) }
 {
     match busy {
         Some(busy) => {
@@ -106,7 +106,7 @@ fn add_more<const S: usize>(
 ) -> Result<(), AllocError>
     ensures values { OnOk result (map value_of ends.new ≡ map value_of ends.old) }
     ensures listed { OnOk result (map listed_of ends.new ≡ map listed_of ends.old) }
-    ensures sets { OnOk result (map set_of ends.new ≡ map set_of ends.old) }
+    ensures shown { OnOk result (map shown_of ends.new ≡ map shown_of ends.old) }
 {
     let sources = sources_of(alloc, space, ends)?;
     for (index, end) in ends.iter_mut().enumerate() {
@@ -142,6 +142,7 @@ pub(crate) fn new_end(
 ) -> Result<SpaceEnd, AllocError>
     ensures kind { IfOk result (λ e. e.kind ≡ kind) }
     ensures state { IfOk result (λ e. e.state ≡ state) }
+    ensures places { IfOk result (λ e. e.places.items ≡ place ∷ []) }
     ensures listed { IfOk result (λ e. place < count space.now
         → listed_of e ≡ listed_at kind place (schedule_of space.now place)) }
 {

@@ -2,7 +2,7 @@
 
 ghost use Rattle.std.specs.Prelude.{◌≡◌, IfOk, None};
 ghost use Rattle.space_ends.specs.EndsOfSpace.{missed_in};
-ghost use Rattle.space_ends.specs.SpinningSets.{earlier, IsFirstMissedBy};
+ghost use Rattle.space_ends.specs.Shown.{earlier, IsFirstMissedBy};
 
 use expectations::{Expectation, first_missed};
 use machine::Machine;

@@ -1,16 +1,16 @@
 //! The ends that are places of a space, those of one line together.
 
-ghost use Rattle.std.specs.Prelude.{◌≡◌, ℕ, ◌+◌, ◌<◌, [], length, map, slice_index_or, IfOk, IfSome, OnOk, IsTrue};
+ghost use Rattle.std.specs.Prelude.{◌≡◌, ℕ, ◌+◌, ◌<◌, [], ◌∷◌, length, map, slice_index_or, IfOk, IfSome, OnOk, IsTrue};
 ghost use Rattle.seed_verdicts.specs.ScheduleSpace.Fates.{is_end};
 ghost use Rattle.seed_verdicts.specs.ScheduleSpace.Spaces.{count, world_of, schedule_of};
 ghost use Rattle.seed_verdicts.specs.ScheduleSpace.Reaching.{IsEnd};
-ghost use Rattle.space_ends.specs.EndsOfSpace.{listed_of, ends_in, with_place, first_listed, AreEndsBefore, AreEndsOf, IsJudgedSo};
+ghost use Rattle.space_ends.specs.EndsOfSpace.{listed_of, ends_in, with_place, first_listed, AreEndsBefore, AreEndsOf, IsJudgedSo, IsOfEndLine};
 ghost use Rattle.space_ends.specs.Spinning.{spinning_in};
-ghost use Rattle.space_ends.specs.SpinningSets.{AreSpinningSets};
+ghost use Rattle.space_ends.specs.Shown.{shown_of, shown_with, AreShownSo};
 
 use crate::end_values::{SpaceEnd, SpaceEndKind};
 use crate::every_end::new_end;
-use end_states::{EndJudgement, JudgedEnd, judged_end};
+use end_states::{EndJudgement, JudgedEnd, are_same_states, judged_end};
 use expectations::Expectation;
 use seed_verdicts::space::{Fate, Space, machine_at};
 use std::alloc::{AllocError, Global};
@@ -24,7 +24,7 @@ pub(crate) fn place_ends<const S: usize>(
 ) -> Result<Vec<SpaceEnd>, AllocError>
     ensures ends { IfOk result (λ v. AreEndsOf space.now expected.now (ends_in v.items)) }
     ensures spinning { IfOk result (λ v. spinning_in v.items ≡ []) }
-    ensures sets { IfOk result (λ v. AreSpinningSets space.now expected.now v.items) }
+    ensures shown { IfOk result (λ v. AreShownSo space.now expected.now v.items) }
 {
     let mut ends = Vec::new(alloc);
     for place in 0..space.len() {
@@ -53,9 +53,11 @@ fn add_place<const S: usize>(
     space: &Space<'_>,
     place: usize,
 ) -> Result<(), AllocError>
-    ensures { OnOk result (place < count space.now → IsEnd space.now.image (world_of space.now place)
+    ensures ends { OnOk result (place < count space.now → IsEnd space.now.image (world_of space.now place)
         → AreEndsBefore space.now expected.now place (map listed_of ends.old.items)
         → AreEndsBefore space.now expected.now (place + 1) (map listed_of ends.new.items)) }
+    ensures shown { OnOk result (place < count space.now → AreShownSo space.now expected.now ends.old.items
+        → AreShownSo space.now expected.now ends.new.items) }
 {
     let machine = machine_at::<S>(alloc, space, place)?;
     let judged = judged_end(alloc, &machine, expected)?;
@@ -73,7 +75,8 @@ fn add_place<const S: usize>(
 
 /// Adds a place to an end of its line.
 fn push_place(end: &mut SpaceEnd, place: usize) -> Result<(), AllocError>
-    ensures { OnOk result (listed_of end.new ≡ with_place (listed_of end.old) place) }
+    ensures listed { OnOk result (listed_of end.new ≡ with_place (listed_of end.old) place) }
+    ensures shown { OnOk result (shown_of end.new ≡ shown_with (shown_of end.old) place) }
 {
     end.sets = end.sets.saturating_add(1);
     end.places.push(place)?;
@@ -83,7 +86,7 @@ fn push_place(end: &mut SpaceEnd, place: usize) -> Result<(), AllocError>
 /// The index of the end of whose line another one is.
 fn index_of(ends: &[SpaceEnd], judged: &JudgedEnd) -> Option<usize>
     ensures { IfSome result (λ i. (i < length ends.now)
-        × ((d : SpaceEnd) → IsJudgedSo (listed_of (slice_index_or ends.now i d)) judged.now.judgement)) }
+        × ((d : SpaceEnd) → IsOfEndLine (slice_index_or ends.now i d) judged.now.judgement judged.now.state)) }
 {
     for (index, end) in ends.iter().enumerate() {
         if is_of_line(end, judged) {
@@ -95,9 +98,9 @@ fn index_of(ends: &[SpaceEnd], judged: &JudgedEnd) -> Option<usize>
 
 /// Whether an end that was judged is of the same line as a listed one.
 fn is_of_line(end: &SpaceEnd, judged: &JudgedEnd) -> bool
-    ensures { IsTrue result → IsJudgedSo (listed_of end.now) judged.now.judgement }
+    ensures { IsTrue result → IsOfEndLine end.now judged.now.judgement judged.now.state }
 {
-    is_judged_so(end, judged.judgement) && end.state == judged.state
+    is_judged_so(end, judged.judgement) && are_same_states(&end.state, &judged.state)
 }
 
 /// Whether a listed end is judged so.
@@ -116,8 +119,11 @@ fn first_of_line(
     place: usize,
     judged: JudgedEnd,
 ) -> Result<SpaceEnd, AllocError>
-    ensures { IfOk result (λ e. place < count space.now
+    ensures listed { IfOk result (λ e. place < count space.now
         → listed_of e ≡ first_listed judged.judgement place (schedule_of space.now place)) }
+    ensures kind { IfOk result (λ e. e.kind ≡ SpaceEndKind.End judged.judgement.kind) }
+    ensures state { IfOk result (λ e. e.state ≡ judged.state) }
+    ensures places { IfOk result (λ e. e.places.items ≡ place ∷ []) }
 {
     let JudgedEnd { judgement, state } = judged;
     let kind = SpaceEndKind::End(judgement.kind);

@@ -3,7 +3,7 @@
 ghost use Rattle.std.specs.Prelude.{◌≡◌, ◌<◌, [], length, slice_index, IfOk, OnOk};
 ghost use Rattle.space_ends.specs.EndsOfSpace.{ends_in};
 ghost use Rattle.space_ends.specs.Spinning.{spinning_in, AreSpinning};
-ghost use Rattle.space_ends.specs.SpinningSets.{set_of, IsSpinningSet, AreSpinningSets};
+ghost use Rattle.space_ends.specs.Shown.{shown_of, IsSpinningSet, AreShownSo};
 
 use crate::cycles::cycle_of;
 use crate::end_values::{SpaceEnd, SpaceEndKind};
@@ -34,8 +34,8 @@ pub(crate) fn add_spinning<const S: usize>(
     ensures ends { OnOk result (ends_in ends.new.items ≡ ends_in ends.old.items) }
     ensures spinning { OnOk result (spinning_in ends.old.items ≡ []
         → AreSpinning space.now (spinning_in ends.new.items)) }
-    ensures sets { OnOk result (AreSpinningSets space.now expected.now ends.old.items
-        → AreSpinningSets space.now expected.now ends.new.items) }
+    ensures shown { OnOk result (AreShownSo space.now expected.now ends.old.items
+        → AreShownSo space.now expected.now ends.new.items) }
 {
     let can_end = space.can_end(alloc)?;
     let sets = spinning_sets(alloc, space, &can_end)?;
@@ -55,7 +55,7 @@ fn spinning_set<const S: usize>(
 ) -> Result<SpaceEnd, AllocError>
     ensures kind { IfOk result (λ e. e.kind ≡ SPINNING) }
     ensures places { IfOk result (λ e. e.places.items ≡ places.now) }
-    ensures set { IfOk result (λ e. 0 < length places.now → IsSpinningSet space.now expected.now (set_of e)) }
+    ensures set { IfOk result (λ e. 0 < length places.now → IsSpinningSet space.now expected.now (shown_of e)) }
 {
     let first = first_of(places);
     let machine = machine_at::<S>(alloc, space, first)?;

@@ -6,11 +6,12 @@ ghost use Rattle.expectations.specs.declared.expectation.Expectation.{Expectatio
 ghost use Rattle.seed_verdicts.specs.ScheduleSpace.Spaces.{SpaceValue};
 ghost use Rattle.space_ends.specs.EndsOfSpace.{ends_in};
 ghost use Rattle.space_ends.specs.Spinning.{spinning_in, IsUnmarked, AreUnmarked};
-ghost use Rattle.space_ends.specs.SpinningSets.{set_of, IsSpinningSet, AreSpinningSets, IsOfLine};
+ghost use Rattle.space_ends.specs.Shown.{shown_of, IsSpinningSet, AreShownSo, IsOfLine};
 
 use crate::end_values::SpaceEnd;
 use crate::spinning::SPINNING;
 use end_kinds::EndKind;
+use end_states::are_same_states;
 use std::alloc::AllocError;
 
 /// Adds a set of worlds, to the end of whose line it is.
@@ -19,8 +20,8 @@ pub(crate) fn add_set(ends: &mut Vec<SpaceEnd>, set: SpaceEnd) -> Result<(), All
     ensures some { OnOk result (set.kind ≡ SPINNING → 0 < length (spinning_in ends.new.items)) }
     ensures each { OnOk result (set.kind ≡ SPINNING → (marks : List Bool) → All (IsUnmarked marks) set.places.items
         → AreUnmarked marks (spinning_in ends.old.items) → AreUnmarked marks (spinning_in ends.new.items)) }
-    ensures sets { OnOk result ((v : SpaceValue) (expected : List Expectation) → IsSpinningSet v expected (set_of set)
-        → AreSpinningSets v expected ends.old.items → AreSpinningSets v expected ends.new.items) }
+    ensures shown { OnOk result (set.kind ≡ SPINNING → (v : SpaceValue) (expected : List Expectation)
+        → IsSpinningSet v expected (shown_of set) → AreShownSo v expected ends.old.items → AreShownSo v expected ends.new.items) }
 {
     match line_of(ends, &set) {
         Some(index) => {
@@ -38,8 +39,8 @@ pub(crate) fn add_set(ends: &mut Vec<SpaceEnd>, set: SpaceEnd) -> Result<(), All
 fn extend_by(end: &mut SpaceEnd, set: &SpaceEnd) -> Result<(), AllocError>
     ensures kind { OnOk result (end.new.kind ≡ end.old.kind) }
     ensures places { OnOk result (end.new.places.items ≡ end.old.places.items ++ set.now.places.items) }
-    ensures set { OnOk result (set_of end.new
-        ≡ record (set_of end.old) { places = end.old.places.items ++ set.now.places.items }) }
+    ensures set { OnOk result (shown_of end.new
+        ≡ record (shown_of end.old) { places = end.old.places.items ++ set.now.places.items }) }
 {
     end.sets = end.sets.saturating_add(1);
     end.places.extend_from_slice(&set.places)?;
@@ -66,7 +67,7 @@ fn is_of_line(end: &SpaceEnd, set: &SpaceEnd) -> bool
     end.kind.is_end_of(EndKind::Spinning)
         && end.missed == set.missed
         && end.is_trapped == set.is_trapped
-        && end.state == set.state
+        && are_same_states(&end.state, &set.state)
         && end.going == set.going
         && end.changing == set.changing
 }

@@ -7,7 +7,7 @@ use Rattle.program_rules.specs.Keeping.{is_kept}
 use Rattle.space_ends.specs.ScheduleVerdicts.RightSpaces.{IsRightOnEachWay}
 use Rattle.space_ends.specs.ScheduleVerdicts.ShownClaims.{IsRightThroughout}
 use Rattle.space_ends.specs.BrokenClaims.{value_of, HasBrokenEnds}
-use Rattle.space_ends.specs.SpinningSets.{AreSpinningSets}
+use Rattle.space_ends.specs.Shown.{AreShownSo}
 use Rattle.space_ends.specs.EndsOfSpace.{ends_in, AreEndsOf}
 use Rattle.program_searches.proofs.Knowing.{known, taken, tells, all_ends, all_if_never_busy, none_if, if_none, none_found}
 use Rattle.program_searches.proofs.searches.explore_on.Goals as goal
@@ -39,9 +39,9 @@ returns g c =
           subst (λ (es : List Expectation). AreEndsOf v es (ends_in c.in_ok-ends.ends.items)) c.ends.ensures
           c.in_ok-ends.ensures.ends;
       spinning = c.in_ok-ends.ensures.spinning;
-      sets =
-          subst (λ (es : List Expectation). AreSpinningSets v es c.in_ok-ends.ends.items) c.ends.ensures
-          c.in_ok-ends.ensures.sets;
+      shown =
+          subst (λ (es : List Expectation). AreShownSo v es c.in_ok-ends.ends.items) c.ends.ensures
+          c.in_ok-ends.ensures.shown;
       unknown = c.in_ok-ends.ensures.unknown;
       broken =
           subst (λ (cs : List Claim). HasBrokenEnds v cs (map value_of c.in_ok-ends.ends.items)) c.claims.ensures

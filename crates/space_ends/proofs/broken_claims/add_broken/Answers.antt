@@ -14,7 +14,7 @@ loop-index-preserved g c =
           c.loop-index.invariant.broken;
       ends = c.in_ok-add_if_broken.ensures.ends ∙ c.loop-index.invariant.ends;
       spinning = c.in_ok-add_if_broken.ensures.spinning ∙ c.loop-index.invariant.spinning;
-      sets = λ v expected all. c.in_ok-add_if_broken.ensures.sets v expected (c.loop-index.invariant.sets v expected all);
+      shown = λ v expected all. c.in_ok-add_if_broken.ensures.shown v expected (c.loop-index.invariant.shown v expected all);
     }
 
 pub returns : goal.returns
@@ -25,5 +25,5 @@ returns g c =
       broken = claims_end c.args.space.now claims c.loop-index.index _ _ past c.loop-index.invariant.broken;
       ends = c.loop-index.invariant.ends;
       spinning = c.loop-index.invariant.spinning;
-      sets = c.loop-index.invariant.sets;
+      shown = c.loop-index.invariant.shown;
     }

@@ -5,7 +5,7 @@ use Rattle.seed_verdicts.specs.ScheduleSpace.Spaces.{SpaceValue}
 use Rattle.space_ends.specs.BrokenClaims.{broken_ends, value_of}
 use Rattle.space_ends.specs.EndsOfSpace.{ends_in}
 use Rattle.space_ends.specs.Spinning.{spinning_in}
-use Rattle.space_ends.specs.SpinningSets.{AreSpinningSets}
+use Rattle.space_ends.specs.Shown.{AreShownSo}
 use Rattle.space_ends.proofs.broken_claims.add_broken.Given as goal
 
 abbrev pub invariant-loop-index : goal.invariant-loop-index
@@ -16,6 +16,6 @@ invariant-loop-index g l =
           ≡ map value_of l.initial.ends.items ++ broken_ends l.space 0 l.claims;
       ends : ends_in l.ends.items ≡ ends_in l.initial.ends.items;
       spinning : spinning_in l.ends.items ≡ spinning_in l.initial.ends.items;
-      sets : (v : SpaceValue) (expected : List Expectation) → AreSpinningSets v expected l.initial.ends.items
-          → AreSpinningSets v expected l.ends.items;
+      shown : (v : SpaceValue) (expected : List Expectation) → AreShownSo v expected l.initial.ends.items
+          → AreShownSo v expected l.ends.items;
     }

@@ -2,9 +2,9 @@ use Rattle.std.proofs.Common.{ap, sym, subst, ◌∙◌}
 use Rattle.space_ends.specs.BrokenClaims.{EndValue}
 use Rattle.space_ends.specs.EndsOfSpace.{are_ends, ends_in}
 use Rattle.space_ends.specs.Spinning.{are_spinning, spinning_in}
-use Rattle.space_ends.specs.SpinningSets.{AreSpinningSets}
+use Rattle.space_ends.specs.Shown.{AreShownSo}
 use Rattle.space_ends.proofs.Keeping.{ends_push, spinning_push}
-use Rattle.space_ends.proofs.SpinningSets.{sets_push_none}
+use Rattle.space_ends.proofs.Shown.{shown_push_none}
 use Rattle.space_ends.proofs.broken_claims.add_if_broken.Goals as goal
 
 pub returns-clause-ends : goal.returns-clause-ends
@@ -19,8 +19,9 @@ returns-clause-spinning g c =
     ∙ spinning_push c.args.ends.now.items c.in_ok-end_that_is_broken.field-0
     (ap (λ (x : EndValue). are_spinning x.kind) c.in_ok-end_that_is_broken.ensures)
 
-pub returns-clause-sets : goal.returns-clause-sets
-returns-clause-sets g c = λ v expected all.
-    subst (AreSpinningSets v expected) (sym c.in_ok-push.ensures.items)
-    (sets_push_none v expected c.args.ends.now.items c.in_ok-end_that_is_broken.field-0
-    (ap (λ (x : EndValue). are_spinning x.kind) c.in_ok-end_that_is_broken.ensures) all)
+pub returns-clause-shown : goal.returns-clause-shown
+returns-clause-shown g c = λ v expected all.
+    subst (AreShownSo v expected) (sym c.in_ok-push.ensures.items)
+    (shown_push_none v expected c.args.ends.now.items c.in_ok-end_that_is_broken.field-0
+    (ap (λ (x : EndValue). are_spinning x.kind) c.in_ok-end_that_is_broken.ensures)
+    (ap (λ (x : EndValue). are_ends x.kind) c.in_ok-end_that_is_broken.ensures) all)

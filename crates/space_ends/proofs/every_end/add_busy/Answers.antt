@@ -1,9 +1,9 @@
 use Rattle.std.proofs.Common.{ap, sym, subst, ◌∙◌}
 use Rattle.space_ends.specs.EndsOfSpace.{are_ends, ends_in}
 use Rattle.space_ends.specs.Spinning.{are_spinning, spinning_in}
-use Rattle.space_ends.specs.SpinningSets.{AreSpinningSets}
+use Rattle.space_ends.specs.Shown.{AreShownSo}
 use Rattle.space_ends.proofs.Keeping.{ends_push, spinning_push}
-use Rattle.space_ends.proofs.SpinningSets.{sets_push_none}
+use Rattle.space_ends.proofs.Shown.{shown_push_none}
 use Rattle.space_ends.proofs.every_end.add_busy.Goals as goal
 
 pub returns-in_ok-push-in-Some : goal.returns-in_ok-push-in-Some
@@ -14,7 +14,7 @@ returns-in_ok-push-in-Some c =
     record {
       ends = ap ends_in items ∙ ends_push c.args.ends.now.items end (ap are_ends kind);
       spinning = ap spinning_in items ∙ spinning_push c.args.ends.now.items end (ap are_spinning kind);
-      sets = λ v expected all.
-          subst (AreSpinningSets v expected) (sym items)
-          (sets_push_none v expected c.args.ends.now.items end (ap are_spinning kind) all);
+      shown = λ v expected all.
+          subst (AreShownSo v expected) (sym items)
+          (shown_push_none v expected c.args.ends.now.items end (ap are_spinning kind) (ap are_ends kind) all);
     }

@@ -1,7 +1,7 @@
 use Rattle.std.proofs.Common.{refl, ◌∙◌}
 use Rattle.space_ends.specs.BrokenClaims.{value_of}
 use Rattle.space_ends.specs.EndsOfSpace.{listed_of}
-use Rattle.space_ends.specs.SpinningSets.{set_of}
+use Rattle.space_ends.specs.Shown.{shown_of}
 use Rattle.space_ends.proofs.Broken.{map-set_same}
 use Rattle.space_ends.proofs.every_end.add_more.Goals as goal
 
@@ -14,7 +14,7 @@ loop-index-preserved g c =
       listed =
           map-set_same listed_of c.loop-index.ends c.loop-index.index _ c.index-ends-index.result refl
           ∙ c.loop-index.invariant.listed;
-      sets =
-          map-set_same set_of c.loop-index.ends c.loop-index.index _ c.index-ends-index.result refl
-          ∙ c.loop-index.invariant.sets;
+      shown =
+          map-set_same shown_of c.loop-index.ends c.loop-index.index _ c.index-ends-index.result refl
+          ∙ c.loop-index.invariant.shown;
     }

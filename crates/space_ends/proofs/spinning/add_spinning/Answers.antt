@@ -36,7 +36,7 @@ loop-places-preserved g c =
       some = λ more. is.some kind;
       only = λ none. absurd (omega (arith, none));
       each = λ none. is.each kind marks new (before.each none);
-      sets = λ old. is.sets c.args.space.now c.args.expected.now (c.in_ok-set.ensures.set there) (before.sets old);
+      shown = λ old. is.shown kind c.args.space.now c.args.expected.now (c.in_ok-set.ensures.set there) (before.shown old);
     }
 
 pub returns-clause-spinning : goal.returns-clause-spinning

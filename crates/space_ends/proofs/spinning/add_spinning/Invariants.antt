@@ -2,7 +2,7 @@
 use Rattle.std.proofs.Common.{◌≡◌, ◌<◌, length}
 use Rattle.space_ends.specs.EndsOfSpace.{ends_in}
 use Rattle.space_ends.specs.Spinning.{spinning_in, AreUnmarked}
-use Rattle.space_ends.specs.SpinningSets.{AreSpinningSets}
+use Rattle.space_ends.specs.Shown.{AreShownSo}
 use Rattle.space_ends.proofs.spinning.add_spinning.Given as goal
 
 abbrev pub invariant-loop-places : goal.invariant-loop-places
@@ -13,5 +13,5 @@ invariant-loop-places g l =
       only : l.places-index ≡ 0 → spinning_in l.ends.items ≡ spinning_in l.initial.ends.items;
       each : AreUnmarked l.can_end.items (spinning_in l.initial.ends.items)
           → AreUnmarked l.can_end.items (spinning_in l.ends.items);
-      sets : AreSpinningSets l.space l.expected l.initial.ends.items → AreSpinningSets l.space l.expected l.ends.items;
+      shown : AreShownSo l.space l.expected l.initial.ends.items → AreShownSo l.space l.expected l.ends.items;
     }

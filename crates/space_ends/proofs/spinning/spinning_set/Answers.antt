@@ -6,8 +6,8 @@ use Rattle.seed_verdicts.specs.ScheduleSpace.Spaces.{world_of}
 use Rattle.seed_verdicts.specs.ScheduleVerdicts.RightEnds.{AreTrapsExpected}
 use Rattle.end_states.specs.EndStates.{trap_stops}
 use Rattle.end_states.specs.declared.states.EndState.{EndState}
-use Rattle.space_ends.specs.SpinningSets.{IsFirstMissedBy}
-use Rattle.space_ends.proofs.SpinningSets.{flipped}
+use Rattle.space_ends.specs.Shown.{IsFirstMissedBy}
+use Rattle.space_ends.proofs.Shown.{flipped}
 use Rattle.space_ends.proofs.spinning.spinning_set.Goals as goal
 
 pub returns-clause-set : goal.returns-clause-set

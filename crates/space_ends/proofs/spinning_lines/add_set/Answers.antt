@@ -1,11 +1,11 @@
 use Rattle.std.proofs.Common.{sym, ap, subst, ◌∙◌, ◌<◌, length, get_or, List}
 use Rattle.space_ends.specs.EndsOfSpace.{are_ends, ends_in}
 use Rattle.space_ends.specs.Spinning.{are_spinning, spinning_in, AreUnmarked}
-use Rattle.space_ends.specs.SpinningSets.{set_of, IsFirstMissedBy, IsSpinningSet, AreSpinningSets}
+use Rattle.space_ends.specs.Shown.{shown_of, IsFirstMissedBy, IsSpinningSet, AreShownSo}
 use Rattle.space_ends.specs.declared.end_values.SpaceEnd.{SpaceEnd}
 use Rattle.space_ends.proofs.Keeping.{ends_push}
 use Rattle.space_ends.proofs.Spins.{IsSpunAnew, ends_stay, spun_some, spun_each, push_some, push_each}
-use Rattle.space_ends.proofs.SpinningSets.{sets_push, sets_set, set_at, set_with}
+use Rattle.space_ends.proofs.Shown.{shown_set, shown_push, shown_place, shown_in, set_with}
 use Rattle.space_ends.proofs.spinning_lines.add_set.Goals as goal
 
 pub returns-in_ok-extend_by-in-Some : goal.returns-in_ok-extend_by-in-Some
@@ -35,13 +35,13 @@ returns-in_ok-extend_by-in-Some c =
       some = λ kind. spun_some items index x y anew;
       each = λ kind marks new old.
           spun_each items index x y marks c.args.set.places.items anew c.in_ok-extend_by-in-Some.ensures.places new old;
-      sets = λ v expected is all.
-          sets_set v expected items index y
-          (λ passes.
-          subst (IsSpinningSet v expected) (sym c.in_ok-extend_by-in-Some.ensures.set)
-          (set_with v expected (set_of x) c.args.set.places.items
-          (set_at v expected items index x all anew.below anew.here anew.was)
-          (subst (IsFirstMissedBy v expected c.args.set.places.items) (sym missed) is.missed)))
+      shown = λ kind v expected is all.
+          shown_place v expected items index y
+          (shown_set v expected (shown_of y) anew.is_none
+          (subst (IsSpinningSet v expected) (sym c.in_ok-extend_by-in-Some.ensures.set)
+          (set_with v expected (shown_of x) c.args.set.places.items
+          ((shown_in v expected items index x all anew.below anew.here).set anew.was)
+          (subst (IsFirstMissedBy v expected c.args.set.places.items) (sym missed) is.missed))))
           all;
     }
 
@@ -57,7 +57,8 @@ returns-in_ok-push-in-None c =
       each = λ kind marks new old.
           subst (λ (xs : List SpaceEnd). AreUnmarked marks (spinning_in xs)) (sym pushed)
           (push_each items c.args.set marks (ap are_spinning kind) new old);
-      sets = λ v expected is all.
-          subst (AreSpinningSets v expected) (sym pushed)
-          (sets_push v expected items c.args.set (λ passes. is) all);
+      shown = λ kind v expected is all.
+          subst (AreShownSo v expected) (sym pushed)
+          (shown_push v expected items c.args.set
+          (shown_set v expected (shown_of c.args.set) (ap are_ends kind) is) all);
     }

@@ -4,8 +4,8 @@ use Rattle.std.specs.Prelude.{slice_index}
 use Rattle.machine.specs.MachineValue.{MachineValue}
 use Rattle.seed_verdicts.specs.ScheduleSpace.Spaces.{world_of}
 use Rattle.space_ends.specs.EndsOfSpace.{missed_in}
-use Rattle.space_ends.specs.SpinningSets.{earlier, IsFirstMissedBy}
-use Rattle.space_ends.proofs.SpinningSets.{missed_by_more, take_more}
+use Rattle.space_ends.specs.Shown.{earlier, IsFirstMissedBy}
+use Rattle.space_ends.proofs.Shown.{missed_by_more, take_more}
 use Rattle.space_ends.proofs.going.WorldSet.over.Goals as goal
 
 pub loop-place-preserved : goal.loop-place-preserved
