@@ -1,4 +1,4 @@
-use Rattle.std.proofs.Common.{◌≡◌, ◌<◌, ◌≤◌, ◌+◌, ◌⊎◌, ℕ, List, Option, Some, None, length, get_or, set, slice_get, get_or-set_same, get_or-set_other, inl, inr, subst, sym, ap, ◌∙◌, arith, refl, []}
+use Rattle.std.proofs.Common.{◌≡◌, ◌<◌, ◌≤◌, ◌+◌, ◌⊎◌, ℕ, List, Option, Some, None, length, get_or, set, get_or-set_same, get_or-set_other, inl, inr, subst, sym, ap, ◌∙◌, arith, refl, []}
 use Rattle.std.proofs.lemmas.Option.{slice_get-get_or, get_or_from_slice_get}
 use Rattle.std.proofs.lemmas.Bool.{cases_eq}
 use Rattle.class_results.specs.declared.merging.KeptPlace.{KeptPlace}

@@ -23,6 +23,7 @@ pub use knowledge::Known;
 pub use program_searches as searches;
 pub use requirements::required_by;
 pub use seed_outcomes as outcomes;
+pub use seed_outcomes::seeds::RunFlaw;
 pub use seed_outcomes::states;
 pub use submissions::{SubmissionJudgement, judged_submission};
 pub use verdict_kinds::VerdictKind;

@@ -3,8 +3,8 @@
 use image_file::Image;
 use image_machines::loaded;
 use lab_texts::{
-    FindingsOfRun, MOST_STEPS_OF_TORN, NumberStyle, ProgramNames, Telling, TextWriter,
-    push_first_finding, put_findings,
+    FindingsOfRun, MOST_STEPS_OF_TORN, Notation, NumberStyle, ProgramNames, Telling, TextWriter,
+    WordRange, push_first_finding, put_findings,
 };
 use processor::Step;
 use run_findings::Action;
@@ -85,22 +85,23 @@ pub fn push_findings_of_run<const S: usize>(
     RunFindings::of::<S>(alloc, image, steps)?.push(out, names, style)
 }
 
-/// The first finding of an image's run by these steps, and how many more there are; empty where there is none.
+/// The first finding of an image's run by these steps that is about one of these words, else the first of all, and how many
+/// more there are; empty where there is none.
 pub fn first_finding<const S: usize>(
     alloc: Global,
-    names: &ProgramNames<'_>,
-    style: NumberStyle,
+    notation: Notation<'_, '_>,
     image: &Image,
     steps: &[Step],
+    words: &[WordRange],
 ) -> Result<String, AllocError> {
     let mut out = String::new(alloc);
     let actions = actions_of::<S>(alloc, image, steps)?;
     let found = FindingsOfRun::of(alloc, &actions)?;
     let telling = Telling {
-        names,
-        style,
+        names: notation.names,
+        style: notation.style,
         actions: &actions,
     };
-    push_first_finding(&mut out, &telling, &found)?;
+    push_first_finding(&mut out, &telling, &found, words)?;
     Ok(out)
 }

@@ -104,5 +104,5 @@ fn finding_of<const S: usize>(
     image: &Image,
     end: &SpaceEnd,
 ) -> Result<String, AllocError> {
-    first_finding::<S>(alloc, notation.names, notation.style, image, &end.schedule)
+    first_finding::<S>(alloc, notation, image, &end.schedule, &[])
 }

@@ -1,7 +1,8 @@
 //! What decides a verdict, in words.
 
 use crate::report_lines::{CaseLines, absent_line};
-use expectation_files::{LineFault, LineFaultKind, line_of, word_of};
+use case_cells::{SpokenRange, spoken_words};
+use expectation_files::{LineFault, LineFaultKind, Requirements, line_of, word_of};
 use expectation_messages::fault_words;
 use expectation_messages::parts::made_by;
 use image_file::Image;
@@ -9,9 +10,9 @@ use image_machines::by_room;
 use lab_requests::Maker;
 use lab_texts::{Notation, ProgramNames};
 use processor::Step;
-use program_pages::ends_in_words::{first_finding, state_text, text_of_end};
+use program_pages::ends_in_words::{WordRange, first_finding, going_text, state_text, text_of_end};
 use program_pages::ends_of_space::SpaceEnd;
-use result_lines::judges::{Case, CaseJudgement, Reason, ShownRun};
+use result_lines::judges::{Case, CaseJudgement, MissedLine, Reason, RunFlaw, ShownRun};
 use result_lines::reports::ReportLine;
 use source_places::SourcePlaces;
 use std::alloc::{AllocError, Global};
@@ -52,22 +53,25 @@ pub(crate) struct CaseNotation<'a, 't> {
 }
 
 impl CaseNotation<'_, '_> {
-    /// Writes what decides a judgement: the line that is not met, why, and the first finding.
+    /// Writes what decides a judgement: the line that is not met, why, and a finding: the first that is about a word of this line,
+    /// else the first of all.
     pub(crate) fn add_reason(
         self,
         alloc: Global,
         judgement: &CaseJudgement,
         text: &mut CaseText,
     ) -> Result<(), AllocError> {
-        text.missed = self.lines.line_of(alloc, judgement.missed())?;
+        let missed = judgement.missed();
+        text.missed = self.lines.line_of(alloc, missed)?;
+        let words = missed_words(alloc, self.lines.required, missed)?;
         match &judgement.reason {
             Reason::Looked
             | Reason::Absent { .. }
             | Reason::Lacking { .. }
             | Reason::NotGiven { .. } => Ok(()),
-            Reason::Run(run) => self.add_run(alloc, run, text),
+            Reason::Run(run) => self.add_run(alloc, run, &words, text),
             Reason::End(place) => match judgement.ends.get(*place) {
-                Some(end) => self.add_end(alloc, end, text),
+                Some(end) => self.add_end(alloc, end, &words, text),
                 None => Ok(()),
             },
             Reason::NoSchedule { .. } => text.words.push_str("no schedule has such a state"),
@@ -78,28 +82,49 @@ impl CaseNotation<'_, '_> {
     }
 
     /// Writes what the run of a seed shows.
-    fn add_run(self, alloc: Global, run: &ShownRun, text: &mut CaseText) -> Result<(), AllocError> {
+    fn add_run(
+        self,
+        alloc: Global,
+        run: &ShownRun,
+        words: &[WordRange],
+        text: &mut CaseText,
+    ) -> Result<(), AllocError> {
         let maker = Maker::Random { seed: run.seed };
         let made = made_by(alloc, self.image, maker, self.most)?;
-        text.words = state_text(alloc, self.notation, self.image, &run.end.state)?;
-        text.finding = self.finding(alloc, &made.steps)?;
+        if run.flaw == RunFlaw::OutOfSteps {
+            text.words = going_text(alloc, self.notation, self.image, &made.steps)?;
+        }
+        let shown = state_text(alloc, self.notation, self.image, &run.end.state)?;
+        push_after(&mut text.words, &shown)?;
+        text.finding = self.finding(alloc, &made.steps, words)?;
         Ok(())
     }
 
     /// Writes what an end of all schedules shows: nothing beside the line where its worlds break one.
-    fn add_end(self, alloc: Global, end: &SpaceEnd, text: &mut CaseText) -> Result<(), AllocError> {
+    fn add_end(
+        self,
+        alloc: Global,
+        end: &SpaceEnd,
+        words: &[WordRange],
+        text: &mut CaseText,
+    ) -> Result<(), AllocError> {
         if end.kind.is_end() {
             text.words = text_of_end(alloc, self.notation, self.lines.required, self.image, end)?;
         }
-        text.finding = self.finding(alloc, &end.schedule)?;
+        text.finding = self.finding(alloc, &end.schedule, words)?;
         Ok(())
     }
 
-    /// The first finding of a run; empty where it has none.
-    fn finding(self, alloc: Global, steps: &[Step]) -> Result<String, AllocError> {
+    /// The first finding of a run that is about one of these words, else the first of all; empty where it has none.
+    fn finding(
+        self,
+        alloc: Global,
+        steps: &[Step],
+        words: &[WordRange],
+    ) -> Result<String, AllocError> {
         by_room!(
             self.image,
-            finding_of(alloc, self.notation, self.image, steps)
+            finding_of(alloc, self.notation, self.image, steps, words)
         )
     }
 
@@ -115,14 +140,45 @@ impl CaseNotation<'_, '_> {
     }
 }
 
-/// The first finding of a run, on machines with room for `S` streams a processor.
+/// The same, on machines with room for `S` streams a processor.
 fn finding_of<const S: usize>(
     alloc: Global,
     notation: Notation<'_, '_>,
     image: &Image,
     steps: &[Step],
+    words: &[WordRange],
 ) -> Result<String, AllocError> {
-    first_finding::<S>(alloc, notation.names, notation.style, image, steps)
+    first_finding::<S>(alloc, notation, image, steps, words)
+}
+
+/// The words of the memory of which a line speaks that is not met.
+fn missed_words(
+    alloc: Global,
+    required: &Requirements,
+    missed: Option<MissedLine>,
+) -> Result<Vec<WordRange>, AllocError> {
+    let place = match missed {
+        Some(MissedLine::End(place)) => place,
+        Some(MissedLine::Claim(place)) => required.ends().len().saturating_add(place),
+        Some(MissedLine::Busy | MissedLine::Rule(_) | MissedLine::Absent { .. }) | None => {
+            return Ok(Vec::new(alloc));
+        }
+    };
+    let mut words = Vec::new(alloc);
+    if let Some(spoken) = spoken_words(alloc, required)?.get(place) {
+        for SpokenRange { first, last } in spoken.one.into_iter().chain(spoken.other) {
+            words.push(WordRange { first, last })?;
+        }
+    }
+    Ok(words)
+}
+
+/// Adds a text after what stands there, if both have something.
+fn push_after(words: &mut String, text: &str) -> Result<(), AllocError> {
+    if !words.is_empty() && !text.is_empty() {
+        words.push_str("; ")?;
+    }
+    words.push_str(text)
 }
 
 /// A line of a case that names what a submission lacks.

@@ -68,5 +68,5 @@ fn finding_of<const S: usize>(
     image: &Image,
     steps: &[Step],
 ) -> Result<String, AllocError> {
-    first_finding::<S>(alloc, notation.names, notation.style, image, steps)
+    first_finding::<S>(alloc, notation, image, steps, &[])
 }

@@ -4,6 +4,7 @@ use crate::findings_of_run::{FindingsOfRun, MOST_OF_A_KIND};
 use crate::names::ProgramNames;
 use crate::run_pieces::RunPieces;
 use crate::values::NumberStyle;
+use first_findings::{FindingPlace, WordRange, first_finding};
 use plain_text::TextWriter;
 use run_findings::{Access, Action, LostUpdate, TornRead, UnreadStore};
 use std::alloc::AllocError;
@@ -37,19 +38,27 @@ pub fn put_findings(out: &mut TextWriter, telling: &Telling<'_, '_>, found: &Fin
     telling.put_all_unread(out, &found.unread);
 }
 
-/// Adds the first finding of a run without an end of the line, and how many more there are; nothing where there is
-/// none.
+/// Adds the first finding of a run that is about one of these words, else the first of all, without an end of the line, and
+/// how many more there are; nothing where there is none.
 pub fn push_first_finding(
     out: &mut String,
     telling: &Telling<'_, '_>,
     found: &FindingsOfRun,
+    words: &[WordRange],
 ) -> Result<(), AllocError> {
     let mut text = TextWriter::take(out);
-    match (found.lost.first(), found.torn.first(), found.unread.first()) {
-        (Some(update), _, _) => telling.put_lost(&mut text, update),
-        (None, Some(read), _) => telling.put_torn(&mut text, read),
-        (None, None, Some(store)) => telling.put_unread(&mut text, store),
-        (None, None, None) => {}
+    let first = first_finding(&found.lost, &found.torn, &found.unread, words);
+    match first {
+        Some(FindingPlace::Lost(place)) => if let Some(update) = found.lost.get(place) {
+            telling.put_lost(&mut text, update);
+        }
+        Some(FindingPlace::Torn(place)) => if let Some(read) = found.torn.get(place) {
+            telling.put_torn(&mut text, read);
+        }
+        Some(FindingPlace::Unread(place)) => if let Some(store) = found.unread.get(place) {
+            telling.put_unread(&mut text, store);
+        }
+        None => {}
     }
     put_others(&mut text, found.count().saturating_sub(1));
     text.give_back(out)

@@ -22,6 +22,7 @@ pub use differences::{
 pub use ends::{RunEnd, StoppedStream, end_of, push_end, put_end, stopped_streams};
 pub use findings::{Telling, push_findings, push_first_finding, put_findings};
 pub use findings_of_run::{FindingsOfRun, MOST_STEPS_OF_TORN};
+pub use first_findings::WordRange;
 pub use names::ProgramNames;
 pub use notation::Notation;
 pub use plain_text::{TextWriter, plural};

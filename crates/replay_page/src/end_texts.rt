@@ -30,7 +30,7 @@ pub(crate) fn end_texts(
     words.pop();
     if found.count() > 0 {
         words.push_str("; ")?;
-        push_first_finding(&mut words, &telling, found)?;
+        push_first_finding(&mut words, &telling, found, &[])?;
     }
     Ok(words)
 }
