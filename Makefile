@@ -192,7 +192,7 @@ install:
 	install -D -m 644 share/completions/mta_lab.fish $(SHARE)/fish/vendor_completions.d/mta_lab.fish
 	install -D -m 644 share/completions/mta_lab.rlwrap $(SHARE)/rlwrap/completions/mta_lab
 	install -d $(SHARE)/mta_sim/schema
-	install -m 644 share/schema/*.json $(SHARE)/mta_sim/schema
+	install -m 644 share/schema/*.json share/schema/*.xsd $(SHARE)/mta_sim/schema
 	install -d $(SHARE)/doc/mta_sim/docs
 	cp -r examples exercises editors $(SHARE)/doc/mta_sim
 	rm -r $(SHARE)/doc/mta_sim/editors/make
