@@ -313,7 +313,7 @@ def bounds():
                         "counts.asm", folder=folder)
             states = re.fullmatch(
                 rb"submission\tverdict\twhy\ncounts.asm\tran out of steps\tsome schedules, (\d+) states, ended by --" + bound
-                + rb", and seed 0: not finished\n", ended.out)
+                + rb", and seed 0: not finished: 0.0 goes on at more to more\+1\n", ended.out)
             yield f"{words}", (5, True), (ended.status, states is not None)
             if not words:
                 # each state has its edge and its key, so that 60 bytes at least are held of it, and less than a kilobyte

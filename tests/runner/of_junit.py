@@ -10,7 +10,7 @@ import tempfile
 import checks
 import table
 import tool
-from of_grades import RIGHT, WRONG, lab, made
+from of_grades import lab, made
 
 SCHEMA = os.path.join(table.ROOT, "share/schema/junit.xsd")
 # who may have the library: Debian's own Python has its packages, another one may not
@@ -25,16 +25,19 @@ print(json.dumps([[suite.name, suite.tests, suite.failures, suite.errors, suite.
                   for suite in suites]))
 """
 SUBMISSIONS = {
-    "right.asm": RIGHT,
-    "two<&>\".asm": WRONG,
+    "one.asm": b" .entry 0\n LIT r1, 1\n STORE.N r1, r0, 0\n QUIT\n .data 7\n",
+    "two<&>\".asm": b" .entry 0\n LIT r1, 2\n STORE.N r1, r0, 0\n QUIT\n .data 7\n",
     "fault.asm": b" LOAD.N 5\n",
-    "M\u00fcller.asm": b" .entry 0\n TRAP 1\n .data 1\n",
-    "waits.asm": b" .entry 0\n LOAD.S r1, r0, 0\n LOAD.S r1, r0, 0\n QUIT\n .data 1\n",
+    "M\u00fcller.asm": b" .entry 0\n LOAD.N r1, r0, 9\n QUIT\n .data 7\n",
+    "waits.asm": b" .entry 0\n LOAD.S r1, r0, 0\n LOAD.S r1, r0, 0\n QUIT\n .data 7\n",
 }
+# the cases of a submission, each with what it came to
 WANTED = {
-    "right.asm": [["first", []], ["second", [["Failure", "wrong"]]]],
+    "one.asm": [["first", []], ["second", [["Failure", "wrong"]]]],
     "two<&>\".asm": [["first", [["Failure", "wrong"]]], ["second", []]],
     "fault.asm": [["program", [["Error", "source fault"]]]],
+    "M\u00fcller.asm": [["first", [["Failure", "trap"]]], ["second", [["Failure", "trap"]]]],
+    "waits.asm": [["first", [["Failure", "deadlock"]]], ["second", [["Failure", "deadlock"]]]],
 }
 
 
@@ -43,6 +46,7 @@ def class_in(folder, *words):
     for name, text in SUBMISSIONS.items():
         made(folder, name, text)
     for name, value in (("first", 1), ("second", 2)):
+        made(folder, f"cases/{name}.data", b" .data 0\n")
         made(folder, f"cases/{name}.expect", f"points {value}\nword 0 {value}\n".encode())
     printed = lab("grade", "--cases", "cases", *words, "--format", "junit", *SUBMISSIONS, folder=folder).out
     made(folder, "report.xml", printed)
@@ -91,5 +95,4 @@ def by_library():
         kinds = [result[0][0] if result else "" for _, _, result in cases]
         counts = [len(cases), kinds.count("Failure"), kinds.count("Error"), kinds.count("Skipped")]
         yield f"counts of {name}", counts, [tests, failures, errors, skipped]
-        if name in WANTED:
-            yield f"cases of {name}", WANTED[name], [[case, result] for _, case, result in cases]
+        yield f"cases of {name}", WANTED[name], [[case, result] for _, case, result in cases]
