@@ -13,6 +13,8 @@ TURNS = 40
 EXAMPLES = ("lock.lost_update", "philosophers.deadlock", "trap_handler.ends", "limited_wait", "forwarding.trapped",
             "producer_consumer.blocked", "readers_writer.torn_read", "fetch_add.lost_update")
 SEEN = (*of_sentences.SEEN, "has stopped", "does not run", "no such stream")
+MAKERS = (lambda chance: programs.made(chance).text.decode(), of_sentences.made, of_sentences.made, of_sentences.eventful,
+          of_sentences.made, of_sentences.made)
 # of each step its stream, and what is said of it
 SAID = """
   fullName = namedWord;
@@ -72,7 +74,7 @@ def part(page):
     for number in range(of_sentences.PROGRAMS):
         name = f"stepped{number}"
         source, schedule = (pathlib.Path(page.folder) / f"{name}.{kind}" for kind in ("asm", "schedule"))
-        text = of_sentences.made(chance) if number % 3 else programs.made(chance).text.decode()
+        text = MAKERS[number % len(MAKERS)](chance)
         source.write_text(text)
         slim = int(re.search(r"\.slim (\d+)", text)[1])
         schedule.write_text(turns(chance, text.count(".entry"), slim))

@@ -96,6 +96,16 @@ def made(chance):
     return programs.text_of(Program(slim, chance.choice((0, 1, 2, 3)), handler, starts, data, tuple(words))).decode()
 
 
+def eventful(chance):
+    """A program whose streams set a handler and take it away again, and start other streams, in some order."""
+    parts = [[Word(control=("TGET", 2, 0)), Word(wide=("TLIT", 0, 0)), Word(control=("TSET", 0, 2)), Word(control=("QUIT",))],
+             [Word(wide=("LIT", 3, 1)), Word(control=("RESERVE", 2, 3)), Word(wide=("TLIT", 1, 0)),
+              Word(control=("CREATE", 1, 2)), Word(control=("QUIT",))]]
+    chance.shuffle(parts)
+    starts = (0, len(parts[0]))
+    return programs.text_of(Program(2, 0, NO_HANDLER, starts, ((0, 1),), tuple(parts[0] + parts[1]))).decode()
+
+
 def tags(chance):
     """The tags of a word: full or empty; often it forwards, at times it traps."""
     return chance.choice((0, 1)) | (2 if chance.random() < 0.3 else 0) | (chance.choice((4, 8))
