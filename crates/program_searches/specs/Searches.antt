@@ -90,8 +90,9 @@ pub record IsExplored (i : ImageValue) (asked : ProgramSearch) (e : Explored) : 
   pub spinning : IsTrue e.is_complete → AreSpinning e.space (spinning_in e.ends.items)
   -- Of another one none is.
   pub unknown : IsFalse e.is_complete → spinning_in e.ends.items ≡ []
-  -- A listed set that spins shows the traps of its first world, and misses the first expectation that one of its worlds does.
-  pub shown : AreShownSo e.space asked.required.now.ends.items e.ends.items
+  -- What is said of each is so: an end shows what each of its worlds does; a set that spins shows the traps of its first
+  -- world, and misses the first expectation that one of its worlds does.
+  pub listed : AreShownSo e.space asked.required.now.ends.items e.ends.items
   -- The last of its ends are those of the claims that are broken, with the worlds that break them.
   pub broken : HasBrokenEnds e.space asked.required.now.claims.items (map value_of e.ends.items)
   -- The rule that is reported is the first one that the program breaks.

@@ -39,7 +39,7 @@ returns g c =
           subst (λ (es : List Expectation). AreEndsOf v es (ends_in c.in_ok-ends.ends.items)) c.ends.ensures
           c.in_ok-ends.ensures.ends;
       spinning = c.in_ok-ends.ensures.spinning;
-      shown =
+      listed =
           subst (λ (es : List Expectation). AreShownSo v es c.in_ok-ends.ends.items) c.ends.ensures
           c.in_ok-ends.ensures.shown;
       unknown = c.in_ok-ends.ensures.unknown;
