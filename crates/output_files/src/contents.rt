@@ -7,7 +7,7 @@ use std::io::{Error, ErrorKind, Read, Seek, SeekFrom, Write};
 const CHUNK: usize = 4096;
 
 /// How often a file is written that others write to at the same time.
-const MOST_ROUNDS: usize = 100;
+const MOST_ROUNDS: usize = 10_000;
 
 /// Whether a file has these bytes, and no others.
 pub(crate) fn has_bytes<T: Read + Seek>(file: &mut T, bytes: &[u8]) -> Result<bool, Error> {

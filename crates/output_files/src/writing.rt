@@ -13,7 +13,7 @@ use std::os::unix::fs::MetadataExt;
 use std::rt::Files;
 
 /// How often a write begins again, where another program changes what its path leads to.
-const MOST_ATTEMPTS: usize = 100;
+const MOST_ATTEMPTS: usize = 10_000;
 
 /// Who chose the path of a file that is written.
 #[derive(Clone, Copy, Debug, PartialEq, Eq)]
