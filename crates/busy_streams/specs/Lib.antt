@@ -3,6 +3,7 @@ pub mod Busy
 pub mod BusySpaces
 -- Cited by private contracts alone.
 pub mod OwnCycles
+-- Of crates below, passed on to callers.
 pub mod ScheduleSpace
 pub mod ScheduleSpaceTypes
 pub mod AgreeingEnds

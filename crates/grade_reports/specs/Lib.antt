@@ -1,3 +1,4 @@
 -- The promises, in the order of reading: clauses of public functions cite them.
 pub mod Scores
+-- Of crates below, passed on to callers.
 pub mod JudgementsTypes

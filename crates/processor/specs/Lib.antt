@@ -22,6 +22,7 @@ pub mod StreamRuns
 -- What only the code below the processor cites:
 pub mod FetchForms
 pub mod StreamTables
+-- Of crates below, passed on to callers.
 pub mod StreamCoreTypes
 pub mod ImageFile
 pub mod TagMemory

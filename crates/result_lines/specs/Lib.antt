@@ -1,2 +1,3 @@
+-- Of crates below, passed on to callers.
 pub mod GradeReportsTypes
 pub mod JudgementsTypes

@@ -3,5 +3,6 @@
 pub mod Links
 pub mod Agreeing
 pub mod Handlers
+-- Of crates below, passed on to callers.
 pub mod LocalSteps
 pub mod EndKindsTypes

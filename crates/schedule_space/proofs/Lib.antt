@@ -28,6 +28,7 @@ pub mod Following
 pub mod Explored
 pub mod FreeSteps
 pub mod QuietSteps
+-- Of crates below, passed on to callers.
 pub mod AgreeingEnds
 pub mod DeadRegisters
 pub mod SameFutures

@@ -7,4 +7,5 @@ mod Sought
 pub mod OnTheWay
 mod Unseen
 mod Shown
+-- Of crates below, passed on to callers.
 pub mod ScheduleSpace

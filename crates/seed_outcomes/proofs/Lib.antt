@@ -7,4 +7,5 @@ mod Surveyed
 mod SeedParts
 mod Answered
 mod EqualTests
+-- Of crates below, passed on to callers.
 pub mod ScheduleVerdicts

@@ -8,6 +8,7 @@ pub mod Coverage
 -- Cited by private contracts alone: how outcomes are added to others, and what the parts of a survey are.
 pub mod Adding
 pub mod Parts
+-- Of crates below, passed on to callers.
 pub mod SeedVerdicts
 pub mod SeedVerdictsTypes
 pub mod SpaceEndsTypes

@@ -4,6 +4,7 @@ pub mod Seeds
 pub mod ShownBySeeds
 -- Cited by private contracts alone: what is told of the parts of a run.
 pub mod EndFlaws
+-- Of crates below, passed on to callers.
 pub mod ScheduleVerdicts
 pub mod BusyStreams
 pub mod ScheduleSpace

@@ -6,6 +6,7 @@ pub mod EndsOfSpace
 pub mod Spinning
 pub mod Judging
 pub mod Shown
+-- Of crates below, passed on to callers.
 pub mod EndStates
 pub mod EndStatesTypes
 pub mod ScheduleSpace

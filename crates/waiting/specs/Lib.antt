@@ -4,6 +4,7 @@ pub mod Stuck
 pub mod Waits
 -- Cited by private contracts alone.
 pub mod Deciding
+-- Of crates below, passed on to callers.
 pub mod Machine
 pub mod Processor
 pub mod ProcessorTypes

@@ -11,4 +11,5 @@ pub mod Worlds
 pub mod Replacing
 pub mod Removing
 pub mod Nexts
+-- Of crates below, passed on to callers.
 pub mod DeadRegisters

@@ -6,4 +6,5 @@ pub mod StreamNumbers
 pub mod MemoryNumbers
 pub mod WorldKeys
 pub mod Changes
+-- Of crates below, passed on to callers.
 pub mod DeadRegisters
