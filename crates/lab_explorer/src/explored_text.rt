@@ -10,7 +10,8 @@ use plain_text::{plural, push_plain};
 use schedule_turns::turns_of;
 use search_texts::searches::Explored;
 use search_texts::{
-    EndCells, EndColumns, ExpectedLines, end_line, push_expected, push_unkept, push_unkept_objects,
+    EndCells, EndColumns, ExpectedLines, LookedAt, end_line, push_expected, push_unkept,
+    push_unkept_objects,
 };
 use space_graphs::ends_in_words::{EndWords, words_of_ends};
 use space_graphs::ends_of_space::{SpaceEnd, SpaceEndKind};
@@ -48,7 +49,7 @@ fn push_lines(
     words: &[EndWords],
 ) -> Result<(), AllocError> {
     push_head_line(out, found)?;
-    push_unkept(out, required, found.unkept(), true)?;
+    push_unkept(out, required, found.unkept(), looked_at(found))?;
     let columns = columns_of(alloc, found)?;
     if !found.ends.is_empty() {
         columns.push_names(out)?;
@@ -100,6 +101,14 @@ pub(crate) fn push_head_line(out: &mut String, found: &Explored<'_>) -> Result<(
             )
         }
         None => out.push_str("complete\n"),
+    }
+}
+
+/// The states among which a search looked.
+fn looked_at(found: &Explored<'_>) -> LookedAt {
+    match found.begin() {
+        0 => LookedAt::EverySchedule,
+        _ => LookedAt::SchedulesThatBeginSo,
     }
 }
 

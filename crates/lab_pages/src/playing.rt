@@ -8,7 +8,7 @@ use expectation_messages::parts::{
 use expectation_messages::requirements_of;
 use lab_requests::PlayRequest;
 use lab_texts::ProgramNames;
-use plain_text::{plain, stem_of};
+use plain_text::{plain, plural, stem_of};
 use processor::Step;
 use program_pages::goals::EndGoal;
 use program_pages::searches::Console;
@@ -17,6 +17,20 @@ use std::alloc::{AllocError, Global};
 use std::io::{Read, Write};
 use std::rt::Files;
 use std::time::Clock;
+
+/// What is said of a word that is no goal.
+const GOALS: &str =
+    "a goal is right, wrong, finished, stopped, deadlock, spinning, broken, or the number of an end";
+
+/// What is said of a right or wrong end where nothing is expected.
+const NOT_JUDGED: &str = "without --expect no end is right or wrong";
+
+/// What is said of an end to which no schedule leads.
+const NONE: &str = "no schedule of the program ends so; explore --plain lists its ends by number";
+
+/// The same of the schedules that begin with the steps that were given.
+const NONE_THAT_BEGINS_SO: &str =
+    "no schedule of the program that begins so ends so; explore --plain --from lists its ends by number";
 
 /// Writes a page on which the reader is the scheduler.
 pub fn write_play_page<C: Clock, F: Files, R: Read, E: Write>(
@@ -80,17 +94,24 @@ fn begin_asked<F: Files, R: Read>(
 fn too_many(alloc: Global, request: &PlayRequest) -> Result<LabFault, AllocError> {
     let out = request.out;
     let states = request.states;
+    let some_states = plural(states);
     Ok(LabFault::Words(format!(in alloc;
-        "{out}: not written: the program has more than {states} states; loops that repeat less often make fewer states, and so does a beginning by --from"
+        "{out}: not written: the program has more than {states} state{some_states}; loops that repeat less often make fewer states, and so does a beginning by --from"
     )?))
 }
 
-/// What is said of a goal that is no end of the program.
+/// What is said of a goal that is no end of the program: it is no goal at all, nothing says which ends are right, or no
+/// schedule leads there of those that were asked for.
 fn no_such_end(alloc: Global, request: &PlayRequest) -> Result<LabFault, AllocError> {
-    let shown = plain(alloc, request.goal.unwrap_or(""))?;
-    Ok(LabFault::Words(format!(in alloc;
-        "--goal {shown}: no schedule of the program ends so; explore --plain lists its ends by number"
-    )?))
+    let word = request.goal.unwrap_or("");
+    let shown = plain(alloc, word)?;
+    let why = match EndGoal::of_word(word) {
+        EndGoal::Unknown => GOALS,
+        EndGoal::Right | EndGoal::Wrong if request.expected.is_none() => NOT_JUDGED,
+        _ if request.from.is_some() => NONE_THAT_BEGINS_SO,
+        _ => NONE,
+    };
+    Ok(LabFault::Words(format!(in alloc; "--goal {shown}: {why}")?))
 }
 
 /// What the program is called: as was asked, or by its file's name.

@@ -12,7 +12,8 @@ use plain_text::push_plain;
 use program_rules::first_broken;
 use search_texts::searches::{Console, Explored, ProgramSearch, Unkept, explore_program};
 use search_texts::{
-    EndCells, EndColumns, end_line, push_expected, push_unkept, push_unkept_objects, search_fault,
+    EndCells, EndColumns, LookedAt, end_line, push_expected, push_unkept, push_unkept_objects,
+    search_fault,
 };
 use seed_outcomes::seeds::Seeds;
 use seed_outcomes::{SeedOutcome, SurveySeeds, outcomes_of, unshown_by_seeds, worst_status};
@@ -80,12 +81,27 @@ fn survey_of<X: Threads + Sync, C: Clock, E: Write>(
     let status = worst_status(&outcomes);
     let Some(bounds) = request.explored else {
         let unkept = unkept_by_seeds(alloc, surveyed, seeds)?;
-        push_whole(alloc, &mut output, is_json, surveyed, unkept, false)?;
+        push_whole(
+            alloc,
+            &mut output,
+            is_json,
+            surveyed,
+            unkept,
+            LookedAt::SomeRuns,
+        )?;
         let status = status.worse(unkept.status(false));
         return Ok(CommandAnswer::printed(alloc, output, status));
     };
     let found = every_end(alloc, surveyed, bounds, console)?;
-    push_whole(alloc, &mut output, is_json, surveyed, found.unkept(), true)?;
+    let unkept = found.unkept();
+    push_whole(
+        alloc,
+        &mut output,
+        is_json,
+        surveyed,
+        unkept,
+        LookedAt::EverySchedule,
+    )?;
     push_every_schedule(alloc, &mut output, is_json, surveyed, &found, &outcomes)?;
     Ok(CommandAnswer::printed(alloc, output, status.worse(found.status())))
 }
@@ -113,19 +129,19 @@ fn unkept_by_seeds(
     })
 }
 
-/// Adds what of the program as a whole is not so, by every schedule or by some runs.
+/// Adds what of the program as a whole is not so, by the states that were looked at.
 fn push_whole(
     alloc: Global,
     out: &mut String,
     is_json: bool,
     surveyed: SurveyInput,
     unkept: Unkept,
-    is_of_every: bool,
+    looked_at: LookedAt,
 ) -> Result<(), AllocError> {
     if is_json {
         push_unkept_objects(alloc, out, surveyed.required, unkept)
     } else {
-        push_unkept(out, surveyed.required, unkept, is_of_every)
+        push_unkept(out, surveyed.required, unkept, looked_at)
     }
 }
 

@@ -18,4 +18,4 @@ pub use expected_lines::ExpectedLines;
 pub use lab_ends as ends_in_words;
 pub use program_searches as searches;
 pub use search_faults::search_fault;
-pub use unkept::{push_unkept, push_unkept_objects};
+pub use unkept::{LookedAt, push_unkept, push_unkept_objects};

@@ -7,13 +7,43 @@ use program_searches::Unkept;
 use serde_json::Value;
 use std::alloc::{AllocError, Global};
 
-/// Adds the first rule that a program breaks, if it breaks one, and the first claim that no world shows,
-/// by every schedule or by some runs: those say nothing of other schedules.
+/// Among which states it was looked for what has to be shown.
+#[derive(Clone, Copy, Debug, PartialEq, Eq)]
+pub enum LookedAt {
+    /// Those of every schedule.
+    EverySchedule,
+    /// Those of every schedule that begins with the steps that were given.
+    SchedulesThatBeginSo,
+    /// Those of some runs, which say nothing of other schedules.
+    SomeRuns,
+}
+
+impl LookedAt {
+    /// What follows for a claim that none of them shows.
+    fn consequence(self) -> &'static str {
+        match self {
+            LookedAt::EverySchedule | LookedAt::SchedulesThatBeginSo => "NOT as expected",
+            LookedAt::SomeRuns => "not decided",
+        }
+    }
+
+    /// Where none of them is.
+    fn words(self) -> &'static str {
+        match self {
+            LookedAt::EverySchedule => "in no state of any schedule",
+            LookedAt::SchedulesThatBeginSo => "in no state of any schedule that begins so",
+            LookedAt::SomeRuns => "in no state of any run",
+        }
+    }
+}
+
+/// Adds the first rule that a program breaks, if it breaks one, and the first claim that no world shows of those that were
+/// looked at.
 pub fn push_unkept(
     out: &mut String,
     required: &Requirements,
     unkept: Unkept,
-    is_of_every: bool,
+    looked_at: LookedAt,
 ) -> Result<(), AllocError> {
     if let Some(said) = broken_rule(required, unkept) {
         let line = said.number;
@@ -23,15 +53,9 @@ pub fn push_unkept(
     if let Some(claim) = unshown_claim(required, unkept) {
         let line = claim.number;
         let words = claim.words.as_str();
-        let (head, who) = if is_of_every {
-            ("NOT as expected", "schedule")
-        } else {
-            ("not decided", "run")
-        };
-        write!(
-            out,
-            "{head}: {words} (line {line}): in no state of any {who}\n"
-        )?;
+        let head = looked_at.consequence();
+        let place = looked_at.words();
+        write!(out, "{head}: {words} (line {line}): {place}\n")?;
     }
     if let Some(line) = unkept.undecided {
         write!(
