@@ -46,8 +46,8 @@ const alsoStopped = (end) =>
   (end.stopped.length ? `; a trap stopped ${and(end.stopped.map(([who, trap]) => `${who} (${trapName(trap)})`))}` : "");
 
 /** What was found on the way to an end that nobody judges. */
-const foundText = (e) => (kinds[e] === "found" ? `; ${data.ends[e].findings[0].split(": ")[0]} in a shortest schedule`
-  : "");
+const foundText = (e) => (kinds[e] === "found"
+  ? `; ${data.ends[e].findings[0].split(": ")[0]} in a shortest schedule${begins}` : "");
 
 /** An end in words. */
 function endText(e) {

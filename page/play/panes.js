@@ -91,7 +91,7 @@ function judgeNotes() {
   const finished = data.ends.filter((end) => end.kind === "finished");
   const end = finished.find((one) => !one.findings.length) ?? finished[0];
   const marked = found < 0 ? [] : [html("p", { class: "muted marked" }, signOf(found),
-    " An end with this sign has a finding in a shortest schedule.")];
+    ` An end with this sign has a finding in a shortest schedule${begins}.`)];
   return [...marked, html("p", { class: "muted judged" }, "Nothing says which ends are right. Write what you expect "
     + "into a file, a line each", ...(end ? [", such as ", code(expectedLine(end))] : []), ", and make the page with ",
   code("--expect FILE"), ".")];

@@ -6,12 +6,18 @@ pub(crate) const TEXT: &str =
 const INSIDE = /^(always|never) at (most|least) (\d+) of ((?:\d+\.\d+ )+)in (\S+)\.\.(\S+)$/;
 const OF_WORD = /^(?:always|never) word \[?(\w+)(?:\+(\d+))?\]? /;
 
+/** The place in the program of a label, several of which may stand at one word; -1 where no line has it. */
+function placeOfLabel(name) {
+  const line = data.source.findIndex((text) => text.match(/^\s*(\w+):/)?.[1] === name);
+  return line < 0 ? -1 : data.program.findIndex(([number]) => number > line);
+}
+
 /** The place in the program that a claim names by a label, by what is so many words after it, or by a number; -1 where
   the page knows no such label. */
 function placeNamed(text) {
-  if (/^\d+$/.test(text)) return Number(text);
-  const [, name, more] = text.match(/^([^+]+)(?:\+(\d+))?$/) ?? [];
-  const at = data.program.findIndex(([, place]) => place === name);
+  if (/^(\d+|0x[\da-f]+)$/i.test(text)) return Number(text);
+  const [, name, more] = text.match(/^(\w+)(?:\+(\d+))?$/) ?? [];
+  const at = placeOfLabel(name);
   return at < 0 ? -1 : at + Number(more ?? 0);
 }
 

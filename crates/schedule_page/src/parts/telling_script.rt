@@ -113,7 +113,7 @@ function shortestFindings(end, isOwn) {
     const [kind, ...rest] = finding.replace(/\s{2,}.*$/, "").split(": ");
     const counted = begunSteps ? ` These steps count from the program’s start, ${steps(begunSteps)} before yours.`
       : "";
-    return html("li", {}, isOwn ? "" : "By a shortest schedule to this end: ", html("b", { class: "lost" }, kind),
+    return html("li", {}, isOwn ? "" : `By a shortest schedule${begins} to this end: `, html("b", { class: "lost" }, kind),
       `: ${rest.join(": ")}.${counted}`);
   });
 }
