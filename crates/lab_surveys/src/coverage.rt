@@ -1,14 +1,16 @@
 //! What the search among every schedule adds to a survey.
 
 use crate::survey_objects::{SurveyInput, push_broken_object, push_coverage};
+use end_kinds::EndKind;
 use plain_text::plural;
 use search_texts::ends_in_words::{BrokenLine, broken_line};
 use search_texts::searches::Explored;
+use seed_outcomes::ends_of_space::SpaceEndKind;
 use seed_outcomes::{SeedOutcome, is_met, is_reported};
 use std::alloc::{AllocError, Global};
 
 /// Adds the lines that some schedule breaks on its way and that no outcome breaks, and how many of the ends of every
-/// schedule were met.
+/// schedule were met, of those that a run can show.
 pub(crate) fn push_every_schedule(
     alloc: Global,
     out: &mut String,
@@ -52,7 +54,11 @@ fn push_met(
     found: &Explored<'_>,
     outcomes: &[SeedOutcome],
 ) -> Result<(), AllocError> {
-    let ends = found.ends.iter().filter(|end| end.kind.is_end()).count();
+    let ends = found
+        .ends
+        .iter()
+        .filter(|end| is_shown_by_runs(end.kind))
+        .count();
     let met = found
         .ends
         .iter()
@@ -75,5 +81,25 @@ fn push_met(
     write!(
         out,
         "reached {met} of the {ends} end{some_ends} of {which} ({worlds} state{some_worlds}{comma}{ended})\n"
-    )
+    )?;
+    if can_go_on_forever(found) {
+        out.push_str("some schedule goes on forever: no run shows that, and explore shows how\n")?;
+    }
+    Ok(())
+}
+
+/// Whether a run can show that it came to an end of this kind: one that goes on forever has no end.
+fn is_shown_by_runs(kind: SpaceEndKind) -> bool {
+    match kind {
+        SpaceEndKind::End(kind) => kind != EndKind::Spinning,
+        SpaceEndKind::Broken { .. } | SpaceEndKind::Busy => false,
+    }
+}
+
+/// Whether a search found an endless loop.
+pub(crate) fn can_go_on_forever(found: &Explored<'_>) -> bool {
+    found
+        .ends
+        .iter()
+        .any(|end| end.kind == SpaceEndKind::End(EndKind::Spinning))
 }

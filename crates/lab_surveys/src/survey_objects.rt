@@ -1,5 +1,6 @@
 //! What is said of a survey as objects (docs/LAB_REFERENCE.md, "JSON").
 
+use crate::coverage::can_go_on_forever;
 use command_parts::{Program, made_by, push_object};
 use expectation_files::Requirements;
 use lab_json::{Fields, Object, digits, line_value, object_of, put_run};
@@ -142,5 +143,6 @@ pub(crate) fn push_coverage(
     object.put_number("met", met as u64);
     object.put_number("worlds", found.worlds() as u64);
     object.put("complete", Ok(Value::from(found.is_complete)));
+    object.put("spinning", Ok(Value::from(can_go_on_forever(found))));
     push_object(alloc, out, &object.whole()?)
 }
