@@ -48,7 +48,7 @@ pub struct GoingStream {
 /// What is known of a set of worlds.
 #[derive(Drop)]
 pub(crate) struct WorldSet {
-    /// The streams that run in the first of them.
+    /// The streams that run in some of them, in the order of processor and stream.
     pub going: Vec<GoingStream>,
     /// The place of the first expectation that one of them misses.
     pub missed: Option<usize>,
@@ -93,8 +93,28 @@ impl WorldSet {
         for place in places {
             let world = machine_at::<S>(alloc, space, *place)?;
             known.add(first, &world, expected);
+            known.add_started(alloc, &world)?;
         }
         Ok(known)
+    }
+
+    /// Also the streams that run in a world and not in the first one. Each of them was started on the way, and ends before
+    /// the steps lead back to the first one: so it can go on.
+    fn add_started<const S: usize>(
+        &mut self,
+        alloc: Global,
+        other: &Machine<'_, S>,
+    ) -> Result<(), AllocError>
+        ensures { OnOk result (self.new.missed ≡ self.old.missed) }
+    {
+        for stream in &running_streams(alloc, other)? {
+            let started = GoingStream {
+                stream: *stream,
+                going: Going::Runs,
+            };
+            add_in_order(&mut self.going, started)?;
+        }
+        Ok(())
     }
 
     /// Also of one more world, a machine's.
@@ -123,6 +143,21 @@ impl WorldSet {
         }
         Ok(changing)
     }
+}
+
+/// Adds a stream that is not there, before the first one that comes after it.
+fn add_in_order(streams: &mut Vec<GoingStream>, added: GoingStream) -> Result<(), AllocError> {
+    let order = order_of(added.stream);
+    let index = streams.partition_point(|known| order_of(known.stream) < order);
+    match streams.get(index) {
+        Some(known) if known.stream == added.stream => Ok(()),
+        Some(_) | None => Ok(streams.insert(index, added)?),
+    }
+}
+
+/// By what streams are ordered: the processor, and then the stream.
+fn order_of(stream: Step) -> u16 {
+    u16::from(stream.p) * 256 + u16::from(stream.s)
 }
 
 /// The lesser of two places, which may be missing.
