@@ -133,6 +133,9 @@ SEARCHES = {
     "race, judged": (("grading/submissions/racing.asm",), b"word 8 4\nnever word 8 is 3\n"),
     "claim broken on the way": (("grading/submissions/racing.asm",), b"never word 8 is 1\n"),
     "deadlock, judged": (("grading/submissions/never_given_back.asm",), b"word 8 4\n"),
+    "a stream that loops alone": (("future.asm",), b"never busy\n"),
+    "shown by no state": (("grading/submissions/racing.asm",), b"some word 8 is 3\n"),
+    "a rule of programs": (("grading/submissions/racing.asm",), b"some word 8 is 3\nrequire FADD\n"),
 }
 
 
@@ -150,15 +153,24 @@ def pages_of_ends(words, wished):
         _, *told = map(json.loads, lab("explore", *words, "--pages", made, "--json").out.splitlines())
         got = {name: run_in(tool.read(os.path.join(made, name)).decode()) for name in sorted(os.listdir(made))}
     ends = [end for end in told if end["object"] == "search_end"]
-    wanted = {f"{number}_{end['end']}.html": judged_as(end, wished) for number, end in enumerate(ends, start=1)}
+    whole = line_of_the_whole(told)
+    wanted = {f"{number}_{end['end']}.html": judged_as(end, wished, whole) for number, end in enumerate(ends, start=1)}
     return wanted, {name: (steps_in(run), run.get("expected"), run.get("missed")) for name, run in got.items()}
 
 
-def judged_as(end, wished):
+def line_of_the_whole(told):
+    """The first line that the program as a whole does not meet, whatever the end; None where it meets all."""
+    lines = [value["broken"] for value in told if value["object"] == "rule"]
+    lines += [value["claim"] for value in told if value["object"] == "unshown"]
+    lines += [value["claim"] for value in told if value.get("end") == "broken" and value["claim"]["text"] == "never busy"]
+    return lines[0] if lines else None
+
+
+def judged_as(end, wished, whole):
     """The steps to an end; whether it is as expected, and the line that says that it is not."""
     steps = [f"{p}.{s}" for p, s, count in end["schedule"] for _ in range(count)]
-    line = end["missed"] or end["claim"]
-    return steps, end["expected"] if wished else None, line["text"] if line else None
+    line = end["missed"] or end["claim"] or (whole if end["expected"] else None)
+    return steps, end["expected"] and whole is None if wished else None, line["text"] if line else None
 
 
 def steps_in(run):

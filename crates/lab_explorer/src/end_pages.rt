@@ -1,13 +1,13 @@
 //! The pages of the runs that lead to ends.
 
 use command_parts::{Inputs, LabFault, Program};
-use expectation_files::Requirements;
+use expectation_files::{NEVER_BUSY, Requirements, WrittenLine};
 use plain_text::stem_of;
 use replay_page::{MOST_STEPS, RunNames, RunVerdict, page_of_run};
 use search_texts::push_expected;
 use search_texts::searches::Explored;
 use space_graphs::ends_in_words::broken_line;
-use space_graphs::ends_of_space::SpaceEnd;
+use space_graphs::ends_of_space::{SpaceEnd, SpaceEndKind};
 use std::alloc::{AllocError, Global};
 use std::io::Read;
 use std::rt::Files;
@@ -87,7 +87,11 @@ impl FoundProgram<'_> {
         } else {
             "a schedule"
         };
-        format!(in alloc; "{article} to end {number} ({kind})")
+        let begins = match self.found.begin() {
+            0 => "",
+            _ => " that begins as given",
+        };
+        format!(in alloc; "{article} to end {number} ({kind}){begins}")
     }
 
     /// How an end was judged, which does not meet this line; nothing where that is empty.
@@ -95,7 +99,7 @@ impl FoundProgram<'_> {
         let required = self.required;
         if required.is_nothing() {
             RunVerdict::NotJudged
-        } else if end.is_expected() && self.found.broken_rule.is_none() {
+        } else if end.is_expected() && self.unkept_line().is_none() {
             RunVerdict::Expected
         } else if missed.is_empty() {
             RunVerdict::NotExpected { missed: None }
@@ -106,7 +110,8 @@ impl FoundProgram<'_> {
         }
     }
 
-    /// The line that an end does not meet: a claim that is broken, an expectation, or a rule of programs; empty where none is.
+    /// The line that an end does not meet: a claim that is broken, an expectation, or one of the program as a whole; empty
+    /// where none is.
     fn missed_words(self, alloc: Global, end: &SpaceEnd) -> Result<String, AllocError> {
         if let Some(line) = broken_line(self.required, end.kind) {
             return String::from_str(alloc, line.words);
@@ -118,11 +123,35 @@ impl FoundProgram<'_> {
             && let Some(said) = self.required.claim_lines().get(place)
         {
             words.push_str(&said.words)?;
-        } else if let Some(place) = self.found.broken_rule
-            && let Some(said) = self.required.rule_lines().get(place)
-        {
-            words.push_str(&said.words)?;
+        } else if let Some(line) = self.unkept_line() {
+            words.push_str(line)?;
         }
         Ok(words)
+    }
+
+    /// The first line that the program as a whole does not meet, whatever the end: a rule of programs, a claim that has to
+    /// hold of one state at least, or that no stream loops alone.
+    fn unkept_line(&self) -> Option<&str> {
+        let unkept = self.found.unkept();
+        if let Some(place) = unkept.rule {
+            return text_of(self.required.rule_lines().get(place));
+        }
+        if let Some(place) = unkept.unshown {
+            return text_of(self.required.claim_lines().get(place));
+        }
+        for end in self.found.ends.iter() {
+            if end.kind == SpaceEndKind::Busy {
+                return Some(NEVER_BUSY);
+            }
+        }
+        None
+    }
+}
+
+/// The words of a line.
+fn text_of(line: Option<&WrittenLine>) -> Option<&str> {
+    match line {
+        Some(line) => Some(line.words.as_str()),
+        None => None,
     }
 }
