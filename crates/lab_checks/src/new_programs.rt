@@ -1,6 +1,7 @@
 //! The command `new`.
 
 use command_parts::{CommandAnswer, Inputs, LabFault, NewFile, Status};
+use plain_text::plain;
 use std::alloc::Global;
 use std::io::Read;
 use std::rt::Files;
@@ -52,6 +53,7 @@ pub fn start_program<F: Files, R: Read>(
             },
         ],
     )?;
+    let (source, expected) = (plain(alloc, &source)?, plain(alloc, &expected)?);
     let told = format!(in alloc;
         "{source}: a program of two processors\n{expected}: what each of its ends has to be\nnext: mta_lab explore {source} --expect {expected}\n"
     )?;
