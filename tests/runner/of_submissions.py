@@ -160,12 +160,28 @@ def links_out():
         yield "no links", ["wrong", "not read", "wrong", "not read"], [
             it.split("\t")[1] for it in ended.out.decode().splitlines()[1:]]
         if os.geteuid() == 0:
-            os.lchown(os.path.join(folder, "in/out.asm"), 65_534, 65_534)
-            os.unlink(os.path.join(folder, "pages/out.html"))
-            ended = lab(*call, "in/out.asm", folder=folder)
-            yield "of another", (3, (said + "; link and file are of two users, so it gets no page\n").encode()), (
-                ended.status, ended.err)
-            yield "no page", False, os.path.exists(os.path.join(folder, "pages/out.html"))
+            yield from links_of_another(folder, call)
+
+
+def links_of_another(folder, call):
+    """Links of a user who may not read what they lead to: the submission itself, to a file elsewhere and to one beside it, a
+    folder of its path, and one that a link of the grader's leads to. Those of the file's owner are followed."""
+    real, another, owner = os.path.realpath(folder), 65_534, 65_533
+    os.symlink("other", os.path.join(folder, "lent"))
+    os.symlink("in/near.asm", os.path.join(folder, "over.asm"))
+    os.symlink("secret.asm", os.path.join(folder, "other/theirs.asm"))
+    for name, user in (("in/out.asm", another), ("in/near.asm", another), ("lent", another), ("other/secret.asm", owner),
+                       ("other/theirs.asm", owner)):
+        os.lchown(os.path.join(folder, name), user, user)
+    secret, own = f"{real}/other/secret.asm", f"{real}/in/own.asm"
+    for path, target in (("in/out.asm", secret), ("in/near.asm", own), ("lent/secret.asm", secret), ("over.asm", own)):
+        ended = lab(*call[:-1], "alone", path, folder=folder)
+        said = f"mta_lab: warning: {path}: a symbolic link leads to {target}; link and file are of two users, so it gets no page\n"
+        yield f"{path} of another", (3, said.encode()), (ended.status, ended.err)
+        yield f"no page of {path}", [], os.listdir(os.path.join(folder, "alone"))
+    ended = lab(*call[:-1], "theirs", "other/theirs.asm", folder=folder)
+    yield "of the file's owner", (3, b"", ["theirs.html"]), (
+        ended.status, ended.err, os.listdir(os.path.join(folder, "theirs")))
 
 
 @checks.others("lab/long_comments")

@@ -10,39 +10,122 @@ use std::rt::Files;
 /// The folder that shows which user this process is of.
 const OWN_PROCESS: &str = "/proc/self";
 
-/// A link that leads out of the folder in which it stands.
+/// The user who may read all files.
+const ROOT: u32 = 0;
+
+/// The most links that are followed, as many as the system follows.
+const MOST_LINKS: usize = 40;
+
+/// A link on the way to a file, of which a reader is told.
 #[derive(Drop)]
 pub struct LinkOut {
     /// The path of the file that it leads to, if that is UTF-8 and still the file that was opened.
     pub target: Option<String>,
-    /// Whether it belongs to another user than the file and the one who runs this.
+    /// Whether some link on the way is of another user than the file, the one who runs this, and root. Else it leads out of
+    /// the folder in which it stands.
     pub is_of_another: bool,
 }
 
-/// The link of a path by which a file was opened of which the system says this; None where it leads to a file in its own
-/// folder, or below it. Where that can't be seen any more, it leads out.
+/// The link of a path by which a file was opened of which the system says this: one of another user, among the folders of
+/// the path too, or the path itself, if `is_link` says so and it leads out of its folder. Where that can't be seen any
+/// more, it does.
 pub(crate) fn link_out<F: Files>(
     alloc: Global,
     files: &F,
     path: &str,
     opened: &Metadata,
+    is_link: bool,
 ) -> Result<Option<LinkOut>, AllocError> {
+    let is_of_another = !are_trusted(alloc, files, path, opened)?;
+    if !is_of_another && !is_link {
+        return Ok(None);
+    }
     let target = target_of(alloc, files, path, opened);
     if let Some(target) = &target
+        && !is_of_another
         && is_below(alloc, files, path, target.as_str())?
     {
         return Ok(None);
     }
-    let is_of_another = match files.symlink_metadata(path) {
-        Ok(link) if link.is_symlink() => {
-            link.uid() != opened.uid() && Some(link.uid()) != own_user(files)
-        }
-        Ok(_) | Err(_) => true,
-    };
     Ok(Some(LinkOut {
         target,
         is_of_another,
     }))
+}
+
+/// Whether each symbolic link on the way to a file that was opened by a path is of the file's owner, of the one who runs
+/// this, or of root: over the folders of the path, and over what each link leads to. Not so if the way leads elsewhere by
+/// now.
+fn are_trusted<F: Files>(
+    alloc: Global,
+    files: &F,
+    path: &str,
+    opened: &Metadata,
+) -> Result<bool, AllocError> {
+    let own = own_user(files);
+    let mut place = String::from_str(alloc, path)?;
+    for _ in 0..MOST_LINKS {
+        let Some(end) = first_link(files, &place) else {
+            return Ok(match files.symlink_metadata(&place) {
+                Ok(found) => is_same(&found, opened),
+                Err(_) => false,
+            });
+        };
+        let link = place.get(..end).unwrap_or("");
+        if !is_link_of(files, link, opened.uid(), own) {
+            return Ok(false);
+        }
+        let Ok(target) = files.read_link(alloc, link) else {
+            return Ok(false);
+        };
+        let rest = place.get(end..).unwrap_or("");
+        place = behind_link(alloc, link, &target.into_string(), rest)?;
+    }
+    Ok(false)
+}
+
+/// Where the first symbolic link ends that a path goes through, or is.
+fn first_link<F: Files>(files: &F, path: &str) -> Option<usize> {
+    for (index, byte) in path.bytes().enumerate() {
+        if byte == b'/' && is_link_at(files, path.get(..index).unwrap_or("")) {
+            return Some(index);
+        }
+    }
+    if is_link_at(files, path) {
+        Some(path.len())
+    } else {
+        None
+    }
+}
+
+/// Whether a path is that of a symbolic link.
+fn is_link_at<F: Files>(files: &F, path: &str) -> bool {
+    match files.symlink_metadata(path) {
+        Ok(found) => found.is_symlink(),
+        Err(_) => false,
+    }
+}
+
+/// Whether a path is that of a symbolic link of this user, of the one who runs this, or of root.
+fn is_link_of<F: Files>(files: &F, path: &str, user: u32, own: Option<u32>) -> bool {
+    match files.symlink_metadata(path) {
+        Ok(found) if found.is_symlink() => {
+            let owner = found.uid();
+            owner == user || owner == ROOT || Some(owner) == own
+        }
+        Ok(_) | Err(_) => false,
+    }
+}
+
+/// The path that a link leads to, with what stands after the link.
+fn behind_link(alloc: Global, link: &str, target: &str, rest: &str) -> Result<String, AllocError> {
+    let folder = match link.rfind('/') {
+        Some(slash) if !target.starts_with('/') => {
+            link.get(..slash.saturating_add(1)).unwrap_or("")
+        }
+        Some(_) | None => "",
+    };
+    format!(in alloc; "{folder}{target}{rest}")
 }
 
 /// The path of the file that a path leads to now, if it is the one that was opened.

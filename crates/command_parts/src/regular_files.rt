@@ -20,7 +20,7 @@ const ANOTHER: &str = "another file has come in its place";
 pub struct RegularFile {
     /// Its bytes.
     pub bytes: Vec<u8>,
-    /// The link that led to it, if that leads out of its folder.
+    /// The link that led to it, if that leads out of its folder, or is of another user.
     pub link: Option<LinkOut>,
 }
 
@@ -87,9 +87,9 @@ impl<F: Files, R: Read> Inputs<'_, F, R> {
             return refused(alloc, words);
         }
         let link = match self.named(path, &metadata) {
-            Named::TheFile => None,
+            Named::TheFile => link_out(alloc, self.files, path, &metadata, false)?,
             Named::ALink if refuses_links => return refused(alloc, A_LINK),
-            Named::ALink => link_out(alloc, self.files, path, &metadata)?,
+            Named::ALink => link_out(alloc, self.files, path, &metadata, true)?,
             Named::AnotherFile => return refused(alloc, ANOTHER),
         };
         match self.read_opened(alloc, path, file)? {

@@ -22,8 +22,8 @@ impl GradeNotes {
         }
     }
 
-    /// Notes that the submission of a place is a link out of its folder. It gets no page if the link is of a user who
-    /// may not be able to read the file: the page has its source.
+    /// Notes that the submission of a place is a link out of its folder, or that a link on the way to it is of a user who
+    /// may not be able to read the file. Then it gets no page, which has its source.
     pub(crate) fn note_link(
         &mut self,
         place: usize,
@@ -36,14 +36,17 @@ impl GradeNotes {
             .map_or("another file", |target| target.as_str());
         self.lines.push_str("mta_lab: warning: ")?;
         push_plain(&mut self.lines, path)?;
+        if link.is_of_another {
+            self.without_page.push(place)?;
+            self.lines.push_str(": a symbolic link leads to ")?;
+            push_plain(&mut self.lines, target)?;
+            return self
+                .lines
+                .push_str("; link and file are of two users, so it gets no page\n");
+        }
         self.lines
             .push_str(": a symbolic link that leads out of its folder, to ")?;
         push_plain(&mut self.lines, target)?;
-        if link.is_of_another {
-            self.without_page.push(place)?;
-            self.lines
-                .push_str("; link and file are of two users, so it gets no page")?;
-        }
         self.lines.push_str("\n")
     }
 
