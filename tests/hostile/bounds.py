@@ -40,16 +40,37 @@ def of_memory(tally, folder):
             tally.check(f"{shape} by {size} MB takes {ended.peak // MEGABYTE} MB", ended.peak <= most)
 
 
+def philosophers(count, meals):
+    """A program of philosophers at a table, whose states are many and small."""
+    lines = [" .slim 1", *(f" .entry p{at}" for at in range(count)), *[" .data 0"] * count]
+    for at in range(count):
+        forks = (at, (at + 1) % count)
+        lines += [f"p{at}: LIT r3, {meals}", f"q{at}: LOAD.S r1, r0, {forks[0]}", f" LOAD.S r2, r0, {forks[1]}",
+                  *(f" STORE.S r1, r0, {fork}" for fork in forks), " SUB.T r3, r3, 1", f" SKIP NE, 0, q{at}", " QUIT"]
+    return "\n".join(lines).encode() + b"\n"
+
+
+def streams(count):
+    """A program of two processors, each of so many streams that add forever."""
+    return b"\n".join((b" .slim %d" % count, b" .entry a\n .entry a\n .data 0\n .data 0", b"a: LIT r2, %d" % (count - 1),
+                       b" RESERVE r3, r2\n TLIT t1, w", b"m: SUB.T r3, r3, 1 | CREATE t1, r3\n SKIP NE, 0, m",
+                       b"w: LIT r1, 1\n FADD.N r1, r0, 0\n ADD r4, r4, r1\n FADD.N r4, r0, 1\n SKIP ALWAYS, 0, w\n"))
+
+
 def of_grade(tally, folder):
     """Searches side by side share the megabytes."""
-    paths = [write(folder, f"grows{number}.asm", growing(8, 1000, 128)) for number in range(8)]
-    expected = write(folder, "any.expect", b"word 0 0\n")
-    for jobs in ("1", "4"):
-        ended = lab("grade", "--explore", "--memory", "300", "--jobs", jobs, "--steps", "100", "--expect", expected, *paths)
-        tally.runs += 1
-        tally.check(f"grade by 300 MB: {ended}", ended.out.count(b"ended by --memory") == len(paths))
-        tally.check(f"grade by 300 MB with {jobs} jobs takes {ended.peak // MEGABYTE} MB",
-                    ended.peak <= 300 * MEGABYTE * MORE + 2 * BESIDE)
+    expected = write(folder, "any.expect", b"word 0 123456789\n")
+    for what, text, sizes in (("large machines", growing(8, 1000, 128), (300, 1000)), ("philosophers", philosophers(12, 3), (200,)),
+                              ("32 streams", streams(32), (200, 1000))):
+        # (submissions of the same bytes are judged once)
+        paths = [write(folder, f"grows{number}.asm", text + b"; %d\n" % number) for number in range(8)]
+        for size, jobs in ((size, jobs) for size in sizes for jobs in ("1", "4")):
+            ended = lab("grade", "--explore", "--memory", str(size), "--jobs", jobs, "--states", "1000000000", "--seeds", "1",
+                        "--steps", "100", "--expect", expected, *paths)
+            tally.runs += 1
+            tally.check(f"{what} by {size} MB: {ended}", ended.out.count(b"ended by --memory") == len(paths))
+            tally.check(f"{what} by {size} MB with {jobs} jobs takes {ended.peak // MEGABYTE} MB",
+                        ended.peak <= size * MEGABYTE * MORE + BESIDE)
 
 
 def of_time(tally, folder):

@@ -1,13 +1,14 @@
 //! How submissions are judged, and what is said of one.
 
 use crate::grading::named_cases;
+use crate::memory_shares::{megabytes_in_all, megabytes_of_each};
 use crate::rows::{points_of, row_of};
 use expectation_messages::file_fault;
 use expectation_messages::parts::{LabFault, Program};
 use lab_requests::{Bounds, GradeRequest};
 use lab_texts::NumberStyle;
 use program_pages::search_words::search_fault;
-use program_pages::searches::{Console, SearchFault, USUAL_MEGABYTES};
+use program_pages::searches::{Console, SearchFault};
 use result_lines::judges::{
     AskedJudging, Case, JudgeFault, Submission, SubmissionJudgement, image_by, judged_submission,
 };
@@ -51,8 +52,8 @@ impl Grading<'_, '_> {
     /// How far the search of each submission goes: those that are judged side by side share the megabytes.
     fn bounds_of_each(&self) -> Option<Bounds> {
         let mut bounds = self.request.explored?;
-        let in_all = self.request.megabytes_in_all.unwrap_or(USUAL_MEGABYTES);
-        let share = (in_all / self.jobs.max(1)).max(1);
+        let in_all = megabytes_in_all(self.request);
+        let share = megabytes_of_each(in_all, self.jobs);
         bounds.megabytes = Some(bounds.megabytes.unwrap_or(share).min(share));
         bounds.megabytes_in_all = Some(in_all);
         Some(bounds)

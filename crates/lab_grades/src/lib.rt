@@ -11,6 +11,7 @@ mod grade_notes;
 mod grading;
 mod judging;
 mod kept_results;
+mod memory_shares;
 mod merged_class;
 mod name_words;
 mod option_sums;

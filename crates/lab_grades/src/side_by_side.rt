@@ -3,10 +3,11 @@
 use crate::class_flow::ClassFlow;
 use crate::class_stages::{Desk, Job, Next, Outcome};
 use crate::judging::{Grading, row_on};
+use crate::memory_shares::most_searches;
 use crossbeam_channel::{Receiver, Sender, unbounded};
 use expectation_messages::parts::LabFault;
 use lab_requests::GradeRequest;
-use program_pages::searches::{Console, USUAL_MEGABYTES};
+use program_pages::searches::Console;
 use rayon::current_num_threads;
 use std::alloc::Global;
 use std::fs::File;
@@ -16,9 +17,6 @@ use std::sync::Wait;
 use std::thread;
 use std::thread::Threads;
 use std::time::{Clock, Duration};
-
-/// The megabytes that the search of a submission has at least, where it is not said how many are judged side by side.
-const LEAST_MEGABYTES: usize = 200;
 
 /// How many milliseconds pass at most before progress is shown again.
 const SHOWN_EACH: u64 = 1_000;
@@ -31,15 +29,6 @@ pub(crate) fn jobs_of<X: Threads>(rt: &X, request: &GradeRequest, submissions: u
         None => current_num_threads(rt).min(most_searches(request)),
     };
     jobs.min(submissions)
-}
-
-/// How many searches have their megabytes side by side, one at least.
-fn most_searches(request: &GradeRequest) -> usize {
-    if request.explored.is_none() {
-        return usize::MAX;
-    }
-    let in_all = request.megabytes_in_all.unwrap_or(USUAL_MEGABYTES);
-    (in_all / LEAST_MEGABYTES).max(1)
 }
 
 /// Where submissions that are to be judged wait.
