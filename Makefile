@@ -52,7 +52,7 @@ help:
 	@echo "make check-dist unpacks them next to nothing but the C library, and runs the examples there (seconds)"
 	@echo "make hostile    hostile use of the built program; needs Python 3 and a C compiler (11 minutes on two cores, with other work)"
 	@echo "make refuse     the part of it that refuses each allocation of the commands in turn (some minutes)"
-	@echo "make spaces     compares mta_lab on 2,500 random programs with a search of all states by a machine of the tests' own (two minutes)"
+	@echo "make spaces     compares mta_lab on 4,500 random programs with a search, and steps, by a machine of the tests' own (three minutes)"
 	@echo "make pages      the pages in a browser; needs chromium, its driver and Python's selenium, and says what is missing (some minutes)"
 	@echo "make editors    the syntax files, asked by the editors that read them; mta_lab dap by a client that others' library makes. Says what is missing (seconds)"
 	@echo "make bench      time, instructions and peak memory on the longest inputs (some minutes; valgrind counts instructions)"
@@ -156,11 +156,12 @@ refuse: built-calls
 hostile: built-calls
 	@python3 tests/hostile
 
-# random programs: a search of all states by a machine of the tests' own is compared with what explore and grade say, and
-# with what check warns about
+# random programs: a search of all states by a machine of the tests' own is compared with what explore, grade and survey
+# say, and with what check warns about; a second reading of what a step did with what view says
 spaces: built
 	@python3 tests/spaces
 	@python3 tests/spaces/slips.py
+	@python3 tests/spaces/sentences.py
 
 # what Vim, Neovim, Emacs, Pygments and pandoc take each part of a source text for; then mta_lab dap by a client of the Debug
 # Adapter Protocol on a library that others wrote

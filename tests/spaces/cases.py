@@ -7,8 +7,10 @@ import os
 import random
 
 import busy
+import machine
 import programs
 import search
+import shown
 import wishes
 from ends_alone import EndsAlone
 
@@ -70,6 +72,7 @@ class Case:
             "never busy": ["explore", "--json", at["asm"], "--expect", at["busy"]],
             "begun, never busy": ["explore", "--json", at["asm"], "--from", at["schedule"], "--expect", at["busy"]],
             "graded never busy": ["grade", "--explore", "--json", "--expect", at["busy"], at["asm"]],
+            "surveyed": ["survey", "--seeds", "4", "--steps", "60", "--explore", "--json", at["asm"]],
         }
 
     def differences(self, answers):
@@ -79,7 +82,7 @@ class Case:
                              ("wished plainly", self.of_wished_plainly), ("graded", self.of_graded),
                              ("begun", self.of_begun), ("begun plainly", self.of_begun_plainly),
                              ("never busy", self.of_busy), ("begun, never busy", self.of_begun_busy),
-                             ("graded never busy", self.of_graded_busy)):
+                             ("graded never busy", self.of_graded_busy), ("surveyed", self.of_surveyed)):
             status, printed = answers[name]
             try:
                 objects = [json.loads(line) for line in printed.splitlines()]
@@ -174,6 +177,15 @@ class Case:
         yield differs("verdict", graded["verdict"], wanted)
         yield differs("status", status, status_of_busy(self.space))
 
+    def of_surveyed(self, status, *objects):
+        """How many of the ends, told apart as lines of them are, some seeds reached; an endless loop is none of them."""
+        *outcomes, coverage = objects
+        ends = {shown.by_world(self.space, world) for world in self.space.ends()}
+        reached = {shown.by_object(told) for told in outcomes if told["end"] != "steps"}
+        yield differs("what seeds reach that is no end", reached - ends, set())
+        yield differs("coverage", (coverage["ends"], coverage["met"], coverage["spinning"], coverage["complete"]),
+                      (len(ends), len(reached), bool(self.space.spinning()), True))
+
     # What the search says.
 
     def status(self, expected, claims):
@@ -202,10 +214,10 @@ def begin_of(chance, space):
     """Some steps from the start on, of streams that run."""
     steps, world = [], space.first
     for _ in range(chance.randrange(1, 6)):
-        streams = search.machine.running(world)
+        streams = machine.running(world)
         if streams:
             steps.append(chance.choice(streams))
-            world, _ = search.machine.step(space.program, world, *steps[-1])
+            world, _ = machine.step(space.program, world, *steps[-1])
     return tuple(steps)
 
 
@@ -288,18 +300,9 @@ def of_each_end(space, expected, claims, ends, told_as=lambda world: world):
 
 def of_world(space, world, end):
     """In what the words and the stopped streams differ that are told of a world."""
-    start = space.before[0] if space.before else space.first
-    changed = [[8 * at, held(before), held(after)]
-               for at, (before, after) in enumerate(zip(start.memory, world.memory)) if before != after]
-    yield differs("words", end["words"], changed)
+    yield differs("words", end["words"], shown.changed_words(space.program, world))
     stopped = {tuple(map(int, stream["stream"].split("."))): stream["trap"] for stream in end["stopped"]}
     yield differs("stopped", stopped, search.stopped(world))
-
-
-def held(word):
-    """The value and the tags of a word, as objects have them."""
-    value, tags = word
-    return [str(value), tags]
 
 
 def of_all(space):
@@ -382,6 +385,9 @@ def of_spinning(space, sets, end):
     if not inside:
         return f"its schedule leads to no set that spins: {end['schedule']!r}"
     least = min(space.distance[one] for found in inside for one in found)
+    for what, told, wanted in shown.in_a_loop(space, inside[0], world, end):
+        if told != wanted:
+            return f"{what} in a set that spins: {told}, and not {wanted}"
     round_ok = search.world_after(space.program, (*steps, *way)) == world and len(way) == space.shortest_round(world)
     return differs("a set that spins", (len(steps), end["shortest"], round_ok), (least, least, True))
 
