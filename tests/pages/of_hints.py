@@ -109,6 +109,8 @@ BROKEN = {
                "Inside one+1..two+3: 0.0 at one+1 and 1.0 at two+1."),
     "never_inside": (two(ADDS, ADDS), "never at most 0 of 1.0 in two..two+1", (), "Inside two..two+1: no stream."),
     "by_numbers": (two(ADDS, ADDS), "always at most 1 of 0.0 1.0 in 1..7", (0, 0, 1), "Inside 1..7: 0.0 at one+2 and 1.0 at two+1."),
+    "by_a_second_label": (two(ADDS, ADDS).replace("one:", "first:\none:"), "always at most 1 of 0.0 1.0 in first+1..two+3", (1, 0),
+                          "Inside first+1..two+3: 0.0 at one+1 and 1.0 at two+1."),
     "word": (two(ADDS, ADDS, ".data 0, 0 ; total"), "always word total below 1", (0, 0, 0), "Here [0] total is 1, full."),
     "of_two": (two(ADDS, ADDS), "never word [0] above 1", (0, 0, 0, 1, 1, 1), "Here [0] is 2, full."),
     "busy": (two(WAITS, STORES), "never busy", (), "0.0 can loop alone here: 3 steps lead back to this very state: "

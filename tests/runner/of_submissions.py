@@ -228,6 +228,9 @@ def hidden_characters():
             yield f"U+{ord(letter):04X} in a fault", True, ended.err.startswith(b"mta_lab: no?: ")
             ended = lab("explain", "no" + letter, folder=folder)
             yield f"U+{ord(letter):04X} of explain", False, letter.encode() in ended.err + ended.out
+            ended = lab("new", f"n{letter}", folder=folder)
+            yield f"U+{ord(letter):04X} of new", (0, True, False), (
+                ended.status, ended.out.startswith(b"n?.asm: "), letter.encode() in ended.out)
             made(folder, "c.asm", CHANGED % f"x{letter}y".encode())
             for command in (["view"], ["survey", "--seeds", "1"], ["explore"], ["debug"]):
                 ended = lab(command[0], "c.asm", *command[1:], given=b"step 2\n", folder=folder)
