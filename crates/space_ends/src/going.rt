@@ -92,29 +92,10 @@ impl WorldSet {
         let mut known = WorldSet::before(alloc, first)?;
         for place in places {
             let world = machine_at::<S>(alloc, space, *place)?;
+            add_started(alloc, &mut known.going, &world)?;
             known.add(first, &world, expected);
-            known.add_started(alloc, &world)?;
         }
         Ok(known)
-    }
-
-    /// Also the streams that run in a world and not in the first one. Each of them was started on the way, and ends before
-    /// the steps lead back to the first one: so it can go on.
-    fn add_started<const S: usize>(
-        &mut self,
-        alloc: Global,
-        other: &Machine<'_, S>,
-    ) -> Result<(), AllocError>
-        ensures { OnOk result (self.new.missed ≡ self.old.missed) }
-    {
-        for stream in &running_streams(alloc, other)? {
-            let started = GoingStream {
-                stream: *stream,
-                going: Going::Runs,
-            };
-            add_in_order(&mut self.going, started)?;
-        }
-        Ok(())
     }
 
     /// Also of one more world, a machine's.
@@ -145,14 +126,33 @@ impl WorldSet {
     }
 }
 
+/// Adds the streams that run in a world and not in the first one. Each of them was started on the way, and ends before the
+/// steps lead back to the first one: so it can go on.
+fn add_started<const S: usize>(
+    alloc: Global,
+    streams: &mut Vec<GoingStream>,
+    other: &Machine<'_, S>,
+) -> Result<(), AllocError> {
+    for stream in &running_streams(alloc, other)? {
+        let started = GoingStream {
+            stream: *stream,
+            going: Going::Runs,
+        };
+        add_in_order(streams, started)?;
+    }
+    Ok(())
+}
+
 /// Adds a stream that is not there, before the first one that comes after it.
 fn add_in_order(streams: &mut Vec<GoingStream>, added: GoingStream) -> Result<(), AllocError> {
     let order = order_of(added.stream);
     let index = streams.partition_point(|known| order_of(known.stream) < order);
-    match streams.get(index) {
-        Some(known) if known.stream == added.stream => Ok(()),
-        Some(_) | None => Ok(streams.insert(index, added)?),
+    if let Some(known) = streams.get(index)
+        && known.stream == added.stream
+    {
+        return Ok(());
     }
+    Ok(streams.insert(index, added)?)
 }
 
 /// By what streams are ordered: the processor, and then the stream.
