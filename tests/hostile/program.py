@@ -17,8 +17,9 @@ TOOL, LAB, CALLS = map(built.place, ("mta_sim", "mta_lab", "library_calls"))
 EXAMPLES = os.path.join(ROOT, "examples")
 CASES = os.path.join(ROOT, "tests/cases")
 MOST_INPUT = 33_554_432
-# what a refusal may take: processor seconds, and bytes beside ten times its input
-MOST_SECONDS, MOST_MEMORY = 1, 40_000_000
+# what a refusal may take: processor seconds, and bytes beside ten times its input; how often one that takes longer is run,
+# since other work on the machine makes all runs longer, and the shortest one least
+MOST_SECONDS, MOST_MEMORY, RUNS = 1, 40_000_000, 4
 # after so many seconds a run is ended from outside
 PATIENCE = 300
 FAULT = re.compile(
@@ -115,12 +116,21 @@ class Tally:
         self.runs += 1
         if ended.status == 1:
             self.refused += 1
-            self.seconds = max(self.seconds, ended.seconds)
+            seconds = self.least_seconds(ended, words, text, **how)
+            self.seconds = max(self.seconds, seconds)
             self.beyond = max(self.beyond, ended.peak - 10 * size)
             what = " ".join(os.path.basename(word) for word in words)
-            self.check(f"{what}: refused after {ended.seconds:.2f} s", ended.seconds < MOST_SECONDS)
+            self.check(f"{what}: refused after {seconds:.2f} s", seconds < MOST_SECONDS)
             self.check(f"{what}: refused with {ended.peak} bytes", ended.peak <= 10 * size + MOST_MEMORY)
         return ended
+
+    def least_seconds(self, ended, words, text, **how):
+        """How long a refusal took, or the least of some more, if it took longer than it may and can be run again."""
+        seconds = ended.seconds
+        for _ in range(RUNS - 1 if isinstance(text, bytes) else 0):
+            if seconds >= MOST_SECONDS:
+                seconds = min(seconds, run(words, text, **how).seconds)
+        return seconds
 
     def refuses(self, what, words, fault, text=b"", **how):
         """A run that has to end with this fault and nothing printed."""
