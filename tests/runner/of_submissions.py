@@ -176,7 +176,7 @@ def links_of_another(folder, call):
     secret, own = f"{real}/other/secret.asm", f"{real}/in/own.asm"
     for path, target in (("in/out.asm", secret), ("in/near.asm", own), ("lent/secret.asm", secret), ("over.asm", own)):
         ended = lab(*call[:-1], "alone", path, folder=folder)
-        said = f"mta_lab: warning: {path}: a symbolic link leads to {target}; link and file are of two users, so it gets no page\n"
+        said = f"mta_lab: warning: {path}: a symbolic link leads to {target}, which the link's owner may not be allowed to read: so it gets no page\n"
         yield f"{path} of another", (3, said.encode()), (ended.status, ended.err)
         yield f"no page of {path}", [], os.listdir(os.path.join(folder, "alone"))
     ended = lab(*call[:-1], "theirs", "other/theirs.asm", folder=folder)

@@ -26,6 +26,28 @@ pub struct LinkOut {
     pub is_of_another: bool,
 }
 
+/// Where the way of a path leads, and by whose links.
+#[derive(Clone, Copy, Debug, PartialEq, Eq)]
+enum Way {
+    /// To the file, by links of its owner, of the one who runs this, and of root.
+    Trusted,
+    /// To some file, by a link of another user, or by one that does not say where it leads in UTF-8.
+    OfAnother,
+    /// To another file by now.
+    Elsewhere,
+}
+
+/// What was found of the links of a path.
+#[derive(Drop)]
+pub(crate) enum FoundLink {
+    /// None of which a reader is told.
+    Nothing,
+    /// One of which a reader is told.
+    Out(LinkOut),
+    /// The path leads to another file by now.
+    Elsewhere,
+}
+
 /// The link of a path by which a file was opened of which the system says this: one of another user, among the folders of
 /// the path too, or the path itself, if `is_link` says so and it leads out of its folder. Where that can't be seen any
 /// more, it does.
@@ -35,53 +57,70 @@ pub(crate) fn link_out<F: Files>(
     path: &str,
     opened: &Metadata,
     is_link: bool,
-) -> Result<Option<LinkOut>, AllocError> {
-    let is_of_another = !are_trusted(alloc, files, path, opened)?;
-    if !is_of_another && !is_link {
-        return Ok(None);
+) -> Result<FoundLink, AllocError> {
+    match way_of(alloc, files, path, opened)? {
+        Way::Elsewhere => Ok(FoundLink::Elsewhere),
+        Way::OfAnother => Ok(FoundLink::Out(LinkOut {
+            target: target_of(alloc, files, path, opened),
+            is_of_another: true,
+        })),
+        Way::Trusted if is_link => out_of_folder(alloc, files, path, opened),
+        Way::Trusted => Ok(FoundLink::Nothing),
     }
-    let target = target_of(alloc, files, path, opened);
-    if let Some(target) = &target
-        && !is_of_another
-        && is_below(alloc, files, path, target.as_str())?
-    {
-        return Ok(None);
-    }
-    Ok(Some(LinkOut {
-        target,
-        is_of_another,
-    }))
 }
 
-/// Whether each symbolic link on the way to a file that was opened by a path is of the file's owner, of the one who runs
-/// this, or of root: over the folders of the path, and over what each link leads to. Not so if the way leads elsewhere by
-/// now.
-fn are_trusted<F: Files>(
+/// The link of a path, if it leads out of its folder.
+fn out_of_folder<F: Files>(
     alloc: Global,
     files: &F,
     path: &str,
     opened: &Metadata,
-) -> Result<bool, AllocError> {
+) -> Result<FoundLink, AllocError> {
+    let target = target_of(alloc, files, path, opened);
+    if let Some(target) = &target
+        && is_below(alloc, files, path, target.as_str())?
+    {
+        return Ok(FoundLink::Nothing);
+    }
+    Ok(FoundLink::Out(LinkOut {
+        target,
+        is_of_another: false,
+    }))
+}
+
+/// Where the way of a path leads now by which a file was opened, over the links among its folders, and over what each of
+/// them leads to.
+fn way_of<F: Files>(
+    alloc: Global,
+    files: &F,
+    path: &str,
+    opened: &Metadata,
+) -> Result<Way, AllocError> {
     let own = own_user(files);
     let mut place = String::from_str(alloc, path)?;
     for _ in 0..MOST_LINKS {
         let Some(end) = first_link(files, &place) else {
-            return Ok(match files.symlink_metadata(&place) {
-                Ok(found) => is_same(&found, opened),
-                Err(_) => false,
-            });
+            return Ok(end_of_way(files, &place, opened));
         };
         let link = place.get(..end).unwrap_or("");
         if !is_link_of(files, link, opened.uid(), own) {
-            return Ok(false);
+            return Ok(Way::OfAnother);
         }
         let Ok(target) = files.read_link(alloc, link) else {
-            return Ok(false);
+            return Ok(Way::OfAnother);
         };
         let rest = place.get(end..).unwrap_or("");
         place = behind_link(alloc, link, &target.into_string(), rest)?;
     }
-    Ok(false)
+    Ok(Way::OfAnother)
+}
+
+/// Whether a path without links is that of the file that was opened.
+fn end_of_way<F: Files>(files: &F, place: &str, opened: &Metadata) -> Way {
+    match files.symlink_metadata(place) {
+        Ok(found) if is_same(&found, opened) => Way::Trusted,
+        Ok(_) | Err(_) => Way::Elsewhere,
+    }
 }
 
 /// Where the first symbolic link ends that a path goes through, or is.

@@ -1,7 +1,7 @@
 //! Regular files of others, who may put something else in their place at any time.
 
 use crate::inputs::{Inputs, NOT_UTF_8, not_read};
-use crate::links::{LinkOut, link_out};
+use crate::links::{FoundLink, LinkOut, link_out};
 use output_files::FileIdentity;
 use std::alloc::{AllocError, Global};
 use std::fs;
@@ -86,11 +86,16 @@ impl<F: Files, R: Read> Inputs<'_, F, R> {
         if let Some(words) = kind_words(&metadata) {
             return refused(alloc, words);
         }
-        let link = match self.named(path, &metadata) {
-            Named::TheFile => link_out(alloc, self.files, path, &metadata, false)?,
+        let is_link = match self.named(path, &metadata) {
+            Named::TheFile => false,
             Named::ALink if refuses_links => return refused(alloc, A_LINK),
-            Named::ALink => link_out(alloc, self.files, path, &metadata, true)?,
+            Named::ALink => true,
             Named::AnotherFile => return refused(alloc, ANOTHER),
+        };
+        let link = match link_out(alloc, self.files, path, &metadata, is_link)? {
+            FoundLink::Nothing => None,
+            FoundLink::Out(link) => Some(link),
+            FoundLink::Elsewhere => return refused(alloc, ANOTHER),
         };
         match self.read_opened(alloc, path, file)? {
             Ok(bytes) => Ok(Ok(RegularFile { bytes, link })),

@@ -40,9 +40,8 @@ impl GradeNotes {
             self.without_page.push(place)?;
             self.lines.push_str(": a symbolic link leads to ")?;
             push_plain(&mut self.lines, target)?;
-            return self
-                .lines
-                .push_str("; link and file are of two users, so it gets no page\n");
+            let why = ", which the link's owner may not be allowed to read: so it gets no page\n";
+            return self.lines.push_str(why);
         }
         self.lines
             .push_str(": a symbolic link that leads out of its folder, to ")?;
