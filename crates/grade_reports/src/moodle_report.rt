@@ -9,9 +9,13 @@ use lab_requests::Undecided;
 use plain_text::plain;
 use std::alloc::{AllocError, Global};
 
-/// The columns of the table. Moodle finds a student by the first one.
-pub(crate) const MOODLE_COLUMNS: &str =
-    "\"Identifier\",\"Full name\",\"Grade\",\"Maximum Grade\",\"Feedback comments\"\r\n";
+/// The columns of the table, by the names that Moodle looks for. It finds a student by the first one, and takes no table
+/// without the date of the grade.
+pub(crate) const MOODLE_COLUMNS: &str = "\"Identifier\",\"Full name\",\"Grade\",\"Maximum Grade\",\
+    \"Last modified (grade)\",\"Feedback comments\"\r\n";
+
+/// What Moodle writes as the date of a grade that nobody has given yet.
+const NO_DATE: &str = "\"-\"";
 
 /// What stands after the number of a student in the name of a folder that Moodle makes.
 const FOLDER_MARK: &str = "_assignsubmission_";
@@ -64,7 +68,7 @@ pub(crate) fn push_moodle(
     out.push_str(",")?;
     push_grade(out, reported.form.undecided, reported.row)?;
     let points = reported.form.points;
-    write!(out, ",\"{points}\",")?;
+    write!(out, ",\"{points}\",{NO_DATE},")?;
     let mut comments = String::new(alloc);
     push_verdicts(alloc, &mut comments, reported.form.undecided, reported.row)?;
     push_csv_cell(out, comments.trim_end())?;
