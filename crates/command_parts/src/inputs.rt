@@ -12,8 +12,8 @@ use std::rt::Files;
 /// The most bytes that are taken from one input.
 const INPUT_LIMIT: usize = 33_554_432;
 
-/// The bytes that one read asks for.
-const CHUNK: usize = 65_536;
+/// The bytes that one read asks for: most files have fewer, and each of them takes a buffer of this size.
+const CHUNK: usize = 8_192;
 
 /// What is said of a file whose name is not UTF-8.
 pub(crate) const NOT_UTF_8: &str = "its name is not UTF-8: rename it to have it read";
