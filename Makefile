@@ -21,20 +21,20 @@ PROCESSORS ?= 2
 JOBS ?= $(shell nproc)
 
 # the targets that can be asked of drafts
-OF_DRAFTS = cases documents spaces hostile refuse bench pages editors draft
+OF_DRAFTS = cases documents spaces hostile refuse bench pages editors recipes draft
 ifneq ($(PROGRAM),)
 ifneq ($(filter-out $(OF_DRAFTS),$(or $(MAKECMDGOALS),help)),)
 $(error PROGRAM=$(PROGRAM) goes with $(OF_DRAFTS); all other targets take what is proved)
 endif
 endif
 
-.PHONY: help draft run run-lab try test prove cases checks trust minutes crates affected fits edits refuse hostile spaces pages editors documents bench build built built-calls dist check-dist install uninstall clean
+.PHONY: help draft run run-lab try test prove cases checks trust minutes crates affected fits edits refuse hostile spaces pages editors recipes documents bench build built built-calls dist check-dist install uninstall clean
 
 # the targets, each with what it does and how long it takes
 help:
 	@echo "make try        runs a SOURCE by a SCHEDULE with both programs, unproved (two minutes); examples/lock.asm if none is named"
 	@echo "make draft      builds both programs UNPROVED in out/draft, or the PROGRAMS that are named (some five minutes)"
-	@echo "                cases, documents, spaces, hostile, refuse, pages, editors and bench run on them with PROGRAM=draft"
+	@echo "                cases, documents, spaces, hostile, refuse, pages, editors, recipes and bench run on them with PROGRAM=draft"
 	@echo "make run        proves and builds mta_sim, and shows a first run (37 processor minutes)"
 	@echo "make run-lab    the same of mta_lab (165 processor minutes)"
 	@echo "make test       proves everything, tries the edits in must-fail/, runs all tests (200 processor minutes from nothing; ANEW=1: nothing that is kept counts)"
@@ -55,6 +55,7 @@ help:
 	@echo "make spaces     compares mta_lab on 4,500 random programs with a search, and steps, by a machine of the tests' own (three minutes)"
 	@echo "make pages      the pages in a browser; needs chromium, its driver and Python's selenium, and says what is missing (some minutes)"
 	@echo "make editors    the syntax files, asked by the editors that read them; mta_lab dap by a client that others' library makes. Says what is missing (seconds)"
+	@echo "make recipes    recipes of docs/GRADING.md that take a bare system, a cluster or a spreadsheet: debootstrap's root, Slurm, LibreOffice. Says what is missing (a minute)"
 	@echo "make bench      time, instructions and peak memory on the longest inputs (some minutes; valgrind counts instructions)"
 	@echo "make install    puts the built programs, their examples and documents under PREFIX, $(PREFIX) (a second)"
 	@echo "make uninstall  takes away what make install has put there (a second)"
@@ -168,6 +169,11 @@ spaces: built
 editors:
 	@python3 tests/editor_files.py
 	@tests/adapter_go/run.sh
+
+# recipes of docs/GRADING.md that take more than the program: Gradescope's in a bare Debian (DEBIAN=FOLDER: what debootstrap has
+# made there), an array of Slurm on one node, tables in LibreOffice; those that need nothing else are run by make cases
+recipes: built
+	@python3 tests/recipes
 
 # the pages in headless Chromium: their states, controls, texts, sizes and widths; installs nothing. Without a browser
 # python3 tests/pages --node asks what they say
