@@ -140,6 +140,17 @@ def by_every_schedule():
     return compared("every", *BY_EVERY)
 
 
+@checks.others("class/thorough")
+def thoroughly():
+    """Seeds first, and then every schedule of what they leave open: by the bounds that grade has by itself nothing of the class
+    stays undecided, by one expectation or by cases."""
+    for words, by_seeds, by_every in ((BY_SEEDS, "seeds", "every"), (("--cases", "cases", *BY_SEEDS), "case seeds", "case every")):
+        for task in TASKS:
+            for wanted, (_, verdict, _) in zip(of_task(task), lines_of(graded(task, "--thorough", *words)), strict=True):
+                is_open = wanted.of[by_seeds] in ("right", "not decided")
+                yield f"{task}/{wanted.name}, {by_seeds}", wanted.verdict(by_every if is_open else by_seeds), verdict
+
+
 @checks.others("class/rare")
 def rare():
     """Rare mistakes are found by few seeds, each submission in half a second."""
