@@ -163,21 +163,49 @@ fn run_command<X: Threads + Wait + Sync + Clock, F: Files, R: Read + Send, W: Wr
             };
             debug(alloc, inputs, program, *run, &mut screen)
         }
-        _ => {
-            let mut console = Console {
-                clock: rt,
-                errors: &mut *outputs.errors,
-                is_terminal: outputs.terminals.errors,
-                memory: outputs.memory,
-            };
-            let mut printer = Printer {
-                output: &mut *outputs.output,
-                is_coloured: painting.output,
-            };
-            let answer = answer_to(rt, alloc, command, inputs, &mut printer, &mut console)?;
-            tell(answer, outputs, painting)
+        LabCommand::Check(_)
+        | LabCommand::Schedule { .. }
+        | LabCommand::View(_)
+        | LabCommand::Compare { .. }
+        | LabCommand::Survey(_)
+        | LabCommand::Explore(_)
+        | LabCommand::Grade(_)
+        | LabCommand::Merge(_)
+        | LabCommand::Exercise(_)
+        | LabCommand::Page(_)
+        | LabCommand::Picture(_)
+        | LabCommand::Play(_)
+        | LabCommand::Explain { .. }
+        | LabCommand::Word { .. }
+        | LabCommand::LayOut(_)
+        | LabCommand::New { .. }
+        | LabCommand::Assemble { .. } => {
+            answer_whole(rt, alloc, command, inputs, outputs, painting)
         }
     }
+}
+
+/// Runs a command that answers when it is done.
+fn answer_whole<X: Threads + Wait + Sync + Clock, F: Files, R: Read, W: Write, E: Write>(
+    rt: &X,
+    alloc: Global,
+    command: &LabCommand,
+    inputs: &mut Inputs<'_, F, R>,
+    outputs: &mut Outputs<'_, W, E>,
+    painting: Painting,
+) -> Result<Status, LabFault> {
+    let mut console = Console {
+        clock: rt,
+        errors: &mut *outputs.errors,
+        is_terminal: outputs.terminals.errors,
+        memory: outputs.memory,
+    };
+    let mut printer = Printer {
+        output: &mut *outputs.output,
+        is_coloured: painting.output,
+    };
+    let answer = answer_to(rt, alloc, command, inputs, &mut printer, &mut console)?;
+    tell(answer, outputs, painting)
 }
 
 /// What a command answers.

@@ -54,6 +54,17 @@ fn is_for_people(command: &LabCommand) -> bool {
         LabCommand::Grade(request) => request.format == GradeFormat::Text,
         LabCommand::Merge(request) => request.format == GradeFormat::Text,
         LabCommand::Exercise(_) => true,
-        _ => false,
+        LabCommand::Check(_)
+        | LabCommand::Schedule { .. }
+        | LabCommand::Debug { .. }
+        | LabCommand::Adapt
+        | LabCommand::Page(_)
+        | LabCommand::Picture(_)
+        | LabCommand::Play(_)
+        | LabCommand::Explain { .. }
+        | LabCommand::Word { .. }
+        | LabCommand::LayOut(_)
+        | LabCommand::New { .. }
+        | LabCommand::Assemble { .. } => false,
     }
 }
