@@ -1,7 +1,8 @@
 //! Which of the kept results the rows of a merged table are.
 
-ghost use Rattle.std.specs.Prelude.{◌≡◌, ◌<◌, ℕ, IfOk, length, slice_index_or, None};
-ghost use Rattle.class_results.specs.Merging.{IsFoundAt};
+ghost use Rattle.std.specs.Prelude.{◌≡◌, ◌<◌, ◌↔◌, ℕ, IfOk, IfErr, IfNone, IfSome, IsTrue, length, slice_get, slice_index_or, None, Some};
+ghost use Rattle.class_results.specs.declared.merging.MergeFault.TheVariants.{NoMemory};
+ghost use Rattle.class_results.specs.Merging.{IsFoundAt, AreSame, SaysSame, AgreesWith, AreAlike, IsReasonOf};
 
 use crate::checksums::{Checksum, ResultBasis};
 use std::alloc::{AllocError, Global};
@@ -32,12 +33,15 @@ pub enum MergeFault {
 }
 
 impl From<AllocError> for MergeFault {
+    ghost from_gives = { λ _ fault. fault ≡ NoMemory };
+
     fn from(_error: AllocError) -> MergeFault {
         MergeFault::NoMemory
     }
 }
 
 /// For each submission of the sorted list, which has so many, the index of a kept result of it; None where there is none.
+/// Two kept results of one submission that do not say the same make no table.
 pub fn merged_places(
     alloc: Global,
     count: usize,
@@ -46,14 +50,14 @@ pub fn merged_places(
     ensures length { IfOk result (λ v. length v.items ≡ count) }
     ensures found { IfOk result
         (λ v. (place : ℕ) → place < count → IsFoundAt kept.now (length kept.now) place (slice_index_or v.items place None)) }
+    ensures alike { IfOk result (λ v. AreAlike kept.now (length kept.now) count) }
+    ensures differ { IfErr result (λ f. IsReasonOf kept.now count f) }
 {
     let mut found = vec![in alloc; None; count]?;
     for (index, one) in kept.iter().enumerate() {
         let place = one.place;
         if place < found.len() {
-            if let Some(known) = found[place]
-                && !is_same(kept, known, one)
-            {
+            if let Some(known) = differing(kept, found[place], one) {
                 return Err(MergeFault::Differ {
                     one: known,
                     other: index,
@@ -65,10 +69,28 @@ pub fn merged_places(
     Ok(found)
 }
 
-/// Whether the kept result at an index is the same as this one.
-fn is_same(kept: &[KeptPlace], one: usize, other: &KeptPlace) -> bool {
-    match kept.get(one) {
-        Some(one) => one.basis.holds_by(&other.basis) && one.row == other.row,
-        None => false,
+/// The index of the kept result that is known of a submission, where this one of it does not say the same.
+fn differing(kept: &[KeptPlace], known: Option<usize>, one: &KeptPlace) -> Option<usize>
+    ensures none { IfNone result (AgreesWith kept.now known one.now) }
+    ensures known { IfSome result (λ k. known ≡ Some k) }
+    ensures differs { IfSome result (λ k. SaysSame (slice_get kept.now k) one.now → ⊥) }
+{
+    let known = known?;
+    match kept.get(known) {
+        Some(earlier) => {
+            if are_same(earlier, one) {
+                None
+            } else {
+                Some(known)
+            }
+        }
+        None => Some(known),
     }
+}
+
+/// Whether two kept results say the same.
+fn are_same(one: &KeptPlace, other: &KeptPlace) -> bool
+    ensures { IsTrue result ↔ AreSame one.now other.now }
+{
+    one.basis.holds_by(&other.basis) && one.row == other.row
 }
