@@ -1,3 +1,5 @@
 pub mod Parts
 pub mod Merging
 pub mod Classes
+pub mod OneCall
+pub mod MergedTables

@@ -1,8 +1,10 @@
 //! Parts of a class.
 
-ghost use Rattle.std.specs.Prelude.{◌≡◌, ◌<◌, ◌≤◌, ◌↔◌, IsTrue, IfSome, IfOk, filter, MatchOption, slice_get};
-ghost use Rattle.std.specs.List.{All};
+ghost use Rattle.std.specs.Prelude.{◌≡◌, ◌<◌, ◌≤◌, ◌↔◌, IsTrue, IfSome, IfOk};
+ghost use Rattle.class_results.specs.OneCall.{judges_place, judged_in};
 ghost use Rattle.class_results.specs.Parts.{IsInPart};
+
+use std::alloc::{AllocError, Global};
 
 /// The most parts of a class.
 const MOST_PARTS: usize = 1_000_000;
@@ -39,4 +41,31 @@ impl ClassPart {
     {
         self.number == (place % self.count).saturating_add(1)
     }
+}
+
+/// Whether a call for a part judges the submission of a place of the class; one for no part judges each.
+pub fn is_judged(part: Option<ClassPart>, place: usize) -> bool
+    ensures { result ≡ judges_place part place }
+{
+    match part {
+        Some(part) => part.count > 0 && part.has(place),
+        None => true,
+    }
+}
+
+/// The submissions of a class that a call for a part judges, in the order of the class.
+pub fn judged_in<'a>(
+    alloc: Global,
+    part: Option<ClassPart>,
+    class: &[&'a str],
+) -> Result<Vec<&'a str>, AllocError>
+    ensures { IfOk result (λ v. v.items ≡ judged_in part class.now) }
+{
+    let mut judged = Vec::new(alloc);
+    for place in 0..class.len() {
+        if is_judged(part, place) {
+            judged.push(class[place])?;
+        }
+    }
+    Ok(judged)
 }
