@@ -5,12 +5,16 @@ use Rattle.std.proofs.Math.Seq.{drop-cons}
 use Rattle.std.proofs.Math.ListN.{drop_of_length-le}
 use Rattle.std.proofs.Common.{set}
 use Rattle.std.specs.Prelude.{◌==◌, ◌&&◌}
-use Rattle.std.specs.List.{filter, range_with_len}
-use Rattle.std.proofs.lemmas.List.Elements.{filter-append}
+use Rattle.std.specs.List.{AllWithin, filter, range_with_len}
+use Rattle.std.proofs.Common.{inl, inr, subst}
+use Rattle.std.proofs.lemmas.Bool.{cases_lt}
+use Rattle.std.proofs.lemmas.List.{get_or-set_same}
+use Rattle.std.proofs.lemmas.List.Elements.{filter-append, AllWithin-set}
 use Rattle.claims.specs.declared.claim.Claim.{Claim}
 use Rattle.seed_verdicts.specs.ScheduleSpace.Spaces.{SpaceValue}
 use Rattle.std.proofs.lemmas.List.{map-append}
 use Rattle.space_ends.specs.declared.end_values.SpaceEnd.{SpaceEnd}
+use Rattle.space_ends.specs.FirstBroken.{IsBrokenSo, AreBrokenSo}
 use Rattle.space_ends.specs.BrokenClaims.{EndValue, value_of, broken_places, broken_before, broken_end, broken_end_of, broken_ends}
 
 -- one number more
@@ -94,3 +98,21 @@ broken_somewhere v index c places before ends e here way some is =
     ∙ (λ i. map value_of ends
     ++ cond (length (here i) == 0 && length (way i) == 0) []
     (broken_end index (here i) (length (way i)) ∷ []))
+
+-- One end more says which claim is broken.
+
+pub broken_more : (v : SpaceValue) (claims : List Claim) (xs : List SpaceEnd) (i : ℕ) (y : SpaceEnd) → i < length xs
+    → AllWithin (IsBrokenSo v claims) xs 0 i → IsBrokenSo v claims y
+    → AllWithin (IsBrokenSo v claims) (set xs i y) 0 (i + 1)
+broken_more v claims xs i y below before here k d low within =
+    elim (cases_lt k i) [
+      | inl less ↦ AllWithin-set (IsBrokenSo v claims) xs 0 i i y below here before k d low less
+      | inr most ↦
+          let same : k ≡ i = omega (arith, within, most) in
+          subst (IsBrokenSo v claims)
+          (sym (ap (λ (n : ℕ). get_or (set xs i y) n d) same ∙ get_or-set_same xs i y d below)) here
+    ]
+
+pub all_broken : (v : SpaceValue) (claims : List Claim) (xs : List SpaceEnd) (i : ℕ) → length xs ≤ i
+    → AllWithin (IsBrokenSo v claims) xs 0 i → AreBrokenSo v claims xs
+all_broken v claims xs i past all k d within = all k d (omega arith) (omega (arith, past, within))

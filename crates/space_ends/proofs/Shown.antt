@@ -1,5 +1,5 @@
 -- What listed ends show, and what sets that spin miss.
-use Rattle.std.proofs.Common.{◌≡◌, ℕ, suc, ◌+◌, ◌<◌, ◌≤◌, ◌⊎◌, Bool, true, false, refl, sym, ap, ◌∙◌, subst, cond, set, arith, min}
+use Rattle.std.proofs.Common.{◌≡◌, ℕ, suc, ◌+◌, ◌<◌, ◌≤◌, ◌⊎◌, Bool, true, false, refl, sym, ap, ◌∙◌, subst, set, arith, min}
 use Rattle.std.proofs.Common.{List, [], ◌∷◌, ◌++◌, length, map, get_or, inl, inr, Option, Some, None, length-append}
 use Rattle.std.specs.Prelude.{◌↔◌, IsTrue, IsFalse, not}
 use Rattle.std.specs.List.{All}
@@ -8,7 +8,7 @@ use Rattle.std.proofs.Math.Seq.{take-suc}
 use Rattle.std.proofs.Math.Nat.{min-le_left, min-le_right, min-eq_left, min-eq_right}
 use Rattle.std.proofs.lemmas.Bool.{cases_lt}
 use Rattle.std.proofs.lemmas.List.{map-append, map-set, get_or-map, length-map, get_or_append_left}
-use Rattle.std.proofs.lemmas.List.Elements.{All-nil, All-cons, All-push, All-append, All-set, All-weaker}
+use Rattle.std.proofs.lemmas.List.Elements.{All-nil, All-push, All-append, All-set, All-weaker}
 use Rattle.std.proofs.lemmas.List.Elements.{Contains-append_left, Contains-push}
 use Rattle.std.proofs.lemmas.Option.{same_Some}
 use Rattle.machine.specs.MachineValue.{MachineValue}

@@ -5,6 +5,7 @@ ghost use Rattle.expectations.specs.declared.expectation.Expectation.{Expectatio
 ghost use Rattle.seed_verdicts.specs.ScheduleSpace.Spaces.{SpaceValue};
 ghost use Rattle.space_ends.specs.BrokenClaims.{broken_places, broken_before, broken_end, broken_end_of, broken_ends, value_of};
 ghost use Rattle.space_ends.specs.EndsOfSpace.{ends_in};
+ghost use Rattle.space_ends.specs.Loops.{busy_in};
 ghost use Rattle.space_ends.specs.Spinning.{spinning_in};
 ghost use Rattle.space_ends.specs.Shown.{AreShownSo};
 
@@ -27,6 +28,7 @@ pub(crate) fn add_broken<const S: usize>(
         ++ broken_ends space.now 0 claims.now) }
     ensures ends { OnOk result (ends_in ends.new.items ≡ ends_in ends.old.items) }
     ensures spinning { OnOk result (spinning_in ends.new.items ≡ spinning_in ends.old.items) }
+    ensures busy { OnOk result (busy_in ends.new.items ≡ busy_in ends.old.items) }
     ensures shown { OnOk result ((v : SpaceValue) (expected : List Expectation)
         → AreShownSo v expected ends.old.items → AreShownSo v expected ends.new.items) }
 {
@@ -48,6 +50,7 @@ fn add_if_broken<const S: usize>(
         ++ broken_end_of space.now index claim.now) }
     ensures ends { OnOk result (ends_in ends.new.items ≡ ends_in ends.old.items) }
     ensures spinning { OnOk result (spinning_in ends.new.items ≡ spinning_in ends.old.items) }
+    ensures busy { OnOk result (busy_in ends.new.items ≡ busy_in ends.old.items) }
     ensures shown { OnOk result ((v : SpaceValue) (expected : List Expectation)
         → AreShownSo v expected ends.old.items → AreShownSo v expected ends.new.items) }
 {
@@ -74,7 +77,6 @@ fn end_that_is_broken(
     let first = places.first().copied().unwrap_or(0);
     let kind = SpaceEndKind::Broken { claim };
     let mut end = new_end(alloc, space, first, kind, EndState::empty(alloc))?;
-    end.broken = Some(claim);
     end.sets = places.len();
     end.places = places;
     end.before = before.len();

@@ -1,9 +1,11 @@
 //! The ends of a space.
 
-ghost use Rattle.std.specs.Prelude.{◌≡◌, ◌<◌, [], ◌∷◌, List, IfOk, OnOk, IsTrue, IsFalse, map};
+ghost use Rattle.std.specs.Prelude.{◌≡◌, ◌<◌, [], ◌∷◌, List, IfOk, OnOk, IsTrue, IsFalse, MatchOption, map};
 ghost use Rattle.expectations.specs.declared.expectation.Expectation.{Expectation};
 ghost use Rattle.seed_verdicts.specs.ScheduleSpace.Spaces.{SpaceValue, count, schedule_of};
 ghost use Rattle.space_ends.specs.BrokenClaims.{value_of, HasBrokenEnds};
+ghost use Rattle.space_ends.specs.FirstBroken.{IsBrokenClaim, IsBrokenAs, AreBrokenSo};
+ghost use Rattle.space_ends.specs.Loops.{looping_of, busy_in, loop_of, AreAllEnds};
 ghost use Rattle.space_ends.specs.EndsOfSpace.{listed_of, listed_at, ends_in, AreEndsOf};
 ghost use Rattle.space_ends.specs.Spinning.{spinning_in, AreSpinning};
 ghost use Rattle.space_ends.specs.Shown.{shown_of, AreShownSo};
@@ -17,6 +19,7 @@ use crate::spinning::add_spinning;
 use claims::Claim;
 use end_states::EndState;
 use expectations::Expectation;
+use image_file::Image;
 use machine::LoadFault;
 use processor::Step;
 use seed_verdicts::busy::Busy;
@@ -48,6 +51,9 @@ pub fn space_ends<const S: usize>(
     ensures unknown { IfOk result (λ ends. IsFalse is_complete → spinning_in ends.items ≡ []) }
     ensures shown { IfOk result (λ ends. AreShownSo space.now judged_by.entry.expected.now ends.items) }
     ensures broken { IfOk result (λ ends. HasBrokenEnds space.now judged_by.entry.claims.now (map value_of ends.items)) }
+    ensures first_broken { IfOk result (λ ends. AreBrokenSo space.now judged_by.entry.claims.now ends.items) }
+    ensures busy { IfOk result (λ ends. MatchOption busy (busy_in ends.items ≡ []) (λ b. b.place < count space.now
+        → busy_in ends.items ≡ loop_of space.now b.place b.stream b.steps ∷ [])) }
 {
     let mut ends = unbroken_ends::<S>(alloc, judged_by.expected, space, is_complete)?;
     add_busy(alloc, &mut ends, space, busy)?;
@@ -67,6 +73,7 @@ fn unbroken_ends<const S: usize>(
     ensures spinning { IfOk result (λ ends. IsTrue is_complete → AreSpinning space.now (spinning_in ends.items)) }
     ensures unknown { IfOk result (λ ends. IsFalse is_complete → spinning_in ends.items ≡ []) }
     ensures shown { IfOk result (λ ends. AreShownSo space.now expected.now ends.items) }
+    ensures kinds { IfOk result (λ ends. AreAllEnds ends.items) }
 {
     let mut ends = place_ends::<S>(alloc, expected, space)?;
     if !is_complete {
@@ -87,6 +94,9 @@ fn add_busy(
     ensures spinning { OnOk result (spinning_in ends.new.items ≡ spinning_in ends.old.items) }
     ensures shown { OnOk result ((v : SpaceValue) (expected : List Expectation)
         → AreShownSo v expected ends.old.items → AreShownSo v expected ends.new.items) }
+    ensures busy { OnOk result (AreAllEnds ends.old.items → MatchOption busy (busy_in ends.new.items ≡ [])
+        (λ b. b.place < count space.now
+        → busy_in ends.new.items ≡ loop_of space.now b.place b.stream b.steps ∷ [])) }
 {
     match busy {
         Some(busy) => {
@@ -97,7 +107,7 @@ fn add_busy(
     }
 }
 
-/// Writes to each end from how many worlds some schedule leads there, and the first claim that is broken on its way.
+/// Writes to each end from how many worlds some schedule leads there, and the claim that it names as broken.
 fn add_more<const S: usize>(
     alloc: Global,
     ends: &mut [SpaceEnd],
@@ -107,6 +117,8 @@ fn add_more<const S: usize>(
     ensures values { OnOk result (map value_of ends.new ≡ map value_of ends.old) }
     ensures listed { OnOk result (map listed_of ends.new ≡ map listed_of ends.old) }
     ensures shown { OnOk result (map shown_of ends.new ≡ map shown_of ends.old) }
+    ensures looping { OnOk result (map looping_of ends.new ≡ map looping_of ends.old) }
+    ensures first_broken { OnOk result (AreBrokenSo space.now claims.now ends.new) }
 {
     let sources = sources_of(alloc, space, ends)?;
     for (index, end) in ends.iter_mut().enumerate() {
@@ -116,18 +128,38 @@ fn add_more<const S: usize>(
     Ok(())
 }
 
-/// The place of the first claim that is broken on the way through the schedule of an end; of worlds that break one, that one.
+/// The place of the claim that an end names as broken: the first one that is on the way through its schedule; of worlds that
+/// break one, that one; None where a stream loops alone.
 fn broken_on_way<const S: usize>(
     alloc: Global,
     space: &Space<'_>,
     end: &SpaceEnd,
     claims: &[Claim],
-) -> Result<Option<usize>, AllocError> {
-    if !end.kind.is_end() || claims.is_empty() {
-        return Ok(end.broken);
+) -> Result<Option<usize>, AllocError>
+    ensures { IfOk result (λ broken. IsBrokenAs space.now.image claims.now end.now.kind end.now.schedule.items broken) }
+{
+    match end.kind {
+        SpaceEndKind::End(_) => broken_by::<S>(alloc, space.image(), &end.schedule, claims),
+        SpaceEndKind::Broken { claim } => Ok(Some(claim)),
+        SpaceEndKind::Busy => Ok(None),
     }
-    match first_broken::<S>(alloc, space.image(), &end.schedule, claims) {
-        Ok(broken) => Ok(broken.map(|broken| broken.claim)),
+}
+
+/// The place of the first claim that is broken on the way through a schedule.
+fn broken_by<const S: usize>(
+    alloc: Global,
+    image: &Image,
+    schedule: &[Step],
+    claims: &[Claim],
+) -> Result<Option<usize>, AllocError>
+    ensures { IfOk result (λ broken. IsBrokenClaim image.now schedule.now claims.now broken) }
+{
+    if claims.is_empty() {
+        return Ok(None);
+    }
+    match first_broken::<S>(alloc, image, schedule, claims) {
+        Ok(Some(broken)) => Ok(Some(broken.claim)),
+        Ok(None) => Ok(None),
         Err(LoadFault::NoMemory | LoadFault::Streams) => Err(AllocError),
     }
 }

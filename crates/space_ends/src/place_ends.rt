@@ -6,6 +6,7 @@ ghost use Rattle.seed_verdicts.specs.ScheduleSpace.Spaces.{count, world_of, sche
 ghost use Rattle.seed_verdicts.specs.ScheduleSpace.Reaching.{IsEnd};
 ghost use Rattle.space_ends.specs.EndsOfSpace.{listed_of, ends_in, with_place, first_listed, AreEndsBefore, AreEndsOf, IsJudgedSo, IsOfEndLine};
 ghost use Rattle.space_ends.specs.Spinning.{spinning_in};
+ghost use Rattle.space_ends.specs.Loops.{AreAllEnds};
 ghost use Rattle.space_ends.specs.Shown.{shown_of, shown_with, AreShownSo};
 
 use crate::end_values::{SpaceEnd, SpaceEndKind};
@@ -25,6 +26,7 @@ pub(crate) fn place_ends<const S: usize>(
     ensures ends { IfOk result (λ v. AreEndsOf space.now expected.now (ends_in v.items)) }
     ensures spinning { IfOk result (λ v. spinning_in v.items ≡ []) }
     ensures shown { IfOk result (λ v. AreShownSo space.now expected.now v.items) }
+    ensures kinds { IfOk result (λ v. AreAllEnds v.items) }
 {
     let mut ends = Vec::new(alloc);
     for place in 0..space.len() {
@@ -58,6 +60,7 @@ fn add_place<const S: usize>(
         → AreEndsBefore space.now expected.now (place + 1) (map listed_of ends.new.items)) }
     ensures shown { OnOk result (place < count space.now → AreShownSo space.now expected.now ends.old.items
         → AreShownSo space.now expected.now ends.new.items) }
+    ensures kinds { OnOk result (AreAllEnds ends.old.items → AreAllEnds ends.new.items) }
 {
     let machine = machine_at::<S>(alloc, space, place)?;
     let judged = judged_end(alloc, &machine, expected)?;

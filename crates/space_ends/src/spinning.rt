@@ -4,6 +4,7 @@ ghost use Rattle.std.specs.Prelude.{◌≡◌, ◌<◌, [], length, slice_index,
 ghost use Rattle.space_ends.specs.EndsOfSpace.{ends_in};
 ghost use Rattle.space_ends.specs.Spinning.{spinning_in, AreSpinning};
 ghost use Rattle.space_ends.specs.Shown.{shown_of, IsSpinningSet, AreShownSo};
+ghost use Rattle.space_ends.specs.Loops.{AreAllEnds};
 
 use crate::cycles::cycle_of;
 use crate::end_values::{SpaceEnd, SpaceEndKind};
@@ -36,6 +37,7 @@ pub(crate) fn add_spinning<const S: usize>(
         → AreSpinning space.now (spinning_in ends.new.items)) }
     ensures shown { OnOk result (AreShownSo space.now expected.now ends.old.items
         → AreShownSo space.now expected.now ends.new.items) }
+    ensures kinds { OnOk result (AreAllEnds ends.old.items → AreAllEnds ends.new.items) }
 {
     let can_end = space.can_end(alloc)?;
     let sets = spinning_sets(alloc, space, &can_end)?;

@@ -7,6 +7,7 @@ ghost use Rattle.seed_verdicts.specs.ScheduleSpace.Spaces.{SpaceValue};
 ghost use Rattle.space_ends.specs.EndsOfSpace.{ends_in};
 ghost use Rattle.space_ends.specs.Spinning.{spinning_in, IsUnmarked, AreUnmarked};
 ghost use Rattle.space_ends.specs.Shown.{shown_of, IsSpinningSet, AreShownSo, IsOfLine};
+ghost use Rattle.space_ends.specs.Loops.{AreAllEnds};
 
 use crate::end_values::SpaceEnd;
 use crate::spinning::SPINNING;
@@ -22,6 +23,7 @@ pub(crate) fn add_set(ends: &mut Vec<SpaceEnd>, set: SpaceEnd) -> Result<(), All
         → AreUnmarked marks (spinning_in ends.old.items) → AreUnmarked marks (spinning_in ends.new.items)) }
     ensures shown { OnOk result (set.kind ≡ SPINNING → (v : SpaceValue) (expected : List Expectation)
         → IsSpinningSet v expected (shown_of set) → AreShownSo v expected ends.old.items → AreShownSo v expected ends.new.items) }
+    ensures kinds { OnOk result (set.kind ≡ SPINNING → AreAllEnds ends.old.items → AreAllEnds ends.new.items) }
 {
     match line_of(ends, &set) {
         Some(index) => {

@@ -14,6 +14,7 @@ loop-index-preserved g c =
           c.loop-index.invariant.broken;
       ends = c.in_ok-add_if_broken.ensures.ends ∙ c.loop-index.invariant.ends;
       spinning = c.in_ok-add_if_broken.ensures.spinning ∙ c.loop-index.invariant.spinning;
+      busy = c.in_ok-add_if_broken.ensures.busy ∙ c.loop-index.invariant.busy;
       shown = λ v expected all. c.in_ok-add_if_broken.ensures.shown v expected (c.loop-index.invariant.shown v expected all);
     }
 
@@ -25,5 +26,6 @@ returns g c =
       broken = claims_end c.args.space.now claims c.loop-index.index _ _ past c.loop-index.invariant.broken;
       ends = c.loop-index.invariant.ends;
       spinning = c.loop-index.invariant.spinning;
+      busy = c.loop-index.invariant.busy;
       shown = c.loop-index.invariant.shown;
     }

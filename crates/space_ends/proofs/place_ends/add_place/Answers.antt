@@ -1,7 +1,10 @@
-use Rattle.std.proofs.Common.{sym, ◌+◌, ◌<◌, subst, get_or, length, map, List}
+use Rattle.std.proofs.Common.{sym, ap, ◌∙◌, ◌+◌, ◌<◌, subst, get_or, length, map, List}
+use Rattle.space_ends.specs.Judging.{is_end_kind}
+use Rattle.space_ends.specs.Loops.{AreAllEnds}
 use Rattle.space_ends.specs.EndsOfSpace.{listed_of, IsOfEndLine, AreEndsBefore}
-use Rattle.space_ends.specs.Shown.{AreShownSo}
+use Rattle.space_ends.specs.Shown.{ShownEnd, AreShownSo}
 use Rattle.space_ends.specs.declared.end_values.SpaceEnd.{SpaceEnd}
+use Rattle.space_ends.proofs.Keeping.{all_ends_push, all_ends_set}
 use Rattle.space_ends.proofs.Listing.{judged_at, placed_in, pushed_in}
 use Rattle.space_ends.proofs.Shown.{shown_push, shown_first, shown_line}
 use Rattle.space_ends.proofs.place_ends.add_place.Goals as goal
@@ -30,6 +33,11 @@ returns-in-Some g c =
       shown = λ within all.
           shown_line v expected c.args.place m j.kind s items index x y c.in_ok-machine.ensures is.kind is.state all
           below c.index_mut.ensures.value so.judged.kind so.state c.in_ok-push_place-in-Some.ensures.shown;
+      kinds = λ all.
+          all_ends_set items index y
+          (ap (λ (e : ShownEnd). is_end_kind e.kind) c.in_ok-push_place-in-Some.ensures.shown
+          ∙ ap is_end_kind so.judged.kind)
+          all;
     }
 
 pub returns : goal.returns
@@ -55,4 +63,7 @@ returns g c =
           (shown_push v expected items x
           (shown_first v expected c.args.place m j.kind s x c.in_ok-machine.ensures is.kind is.state new.kind new.state
           new.places) all);
+      kinds = λ all.
+          subst AreAllEnds (sym c.in_ok-push-in-None.ensures.items)
+          (all_ends_push items x (ap is_end_kind new.kind) all);
     }

@@ -1,7 +1,10 @@
 use Rattle.std.proofs.Common.{◌≡◌, ◌+◌, ◌<◌, ◌∙◌, sym, subst, map, arith, List, Vec, Global, rules}
+use Rattle.std.specs.Prelude.{IsTrue}
 use Rattle.std.proofs.lemmas.List.Elements.{All-nil}
 use Rattle.seed_verdicts.specs.ScheduleSpace.Spaces.{count, world_of}
 use Rattle.space_ends.specs.EndsOfSpace.{listed_of, AreEndsBefore}
+use Rattle.space_ends.specs.Judging.{is_end_kind}
+use Rattle.space_ends.specs.Loops.{AreAllEnds}
 use Rattle.space_ends.specs.Shown.{IsShownSo, AreShownSo}
 use Rattle.space_ends.specs.declared.end_values.SpaceEnd.{SpaceEnd}
 use Rattle.space_ends.proofs.Listing.{none_yet, passed, all_places, none_spins, fate_ends, fate_goes_on}
@@ -17,6 +20,7 @@ loop-place-init g c =
           subst (λ (xs : List SpaceEnd). AreEndsBefore v expected 0 (map listed_of xs)) (sym c.new-ends.ensures.items)
           (none_yet v expected);
       shown = subst (AreShownSo v expected) (sym c.new-ends.ensures.items) (All-nil (IsShownSo v expected));
+      kinds = subst AreAllEnds (sym c.new-ends.ensures.items) (All-nil (λ (e : SpaceEnd). IsTrue (is_end_kind e.kind)));
     }
 
 pub loop-place-preserved : goal.loop-place-preserved
@@ -36,6 +40,9 @@ loop-place-preserved g c =
             shown =
                 subst (λ (xs : Vec SpaceEnd Global). AreShownSo v expected xs.items) (sym b.ends-is)
                 (b.in_ok-add_place.ensures.shown within c.loop-place.invariant.shown);
+            kinds =
+                subst (λ (xs : Vec SpaceEnd Global). AreAllEnds xs.items) (sym b.ends-is)
+                (b.in_ok-add_place.ensures.kinds c.loop-place.invariant.kinds);
           }
       | else-is_end b ↦
           let never = fate_goes_on v.image w c.fate.result c.fate.ensures (sym c.is_end.ensures ∙ b.if-is_end.false) in
@@ -47,6 +54,8 @@ loop-place-preserved g c =
             shown =
                 subst (λ (xs : Vec SpaceEnd Global). AreShownSo v expected xs.items) (sym b.ends-is)
                 c.loop-place.invariant.shown;
+            kinds =
+                subst (λ (xs : Vec SpaceEnd Global). AreAllEnds xs.items) (sym b.ends-is) c.loop-place.invariant.kinds;
           }
     ]
 
@@ -63,4 +72,5 @@ returns g c =
           c.len-place-end.ensures.in_order all c.loop-place.invariant.ends;
       spinning = none;
       shown = c.loop-place.invariant.shown;
+      kinds = c.loop-place.invariant.kinds;
     }

@@ -37,6 +37,7 @@ loop-places-preserved g c =
       only = λ none. absurd (omega (arith, none));
       each = λ none. is.each kind marks new (before.each none);
       shown = λ old. is.shown kind c.args.space.now c.args.expected.now (c.in_ok-set.ensures.set there) (before.shown old);
+      kinds = λ all. is.kinds kind (before.kinds all);
     }
 
 pub returns-clause-spinning : goal.returns-clause-spinning

@@ -2,6 +2,7 @@
 use Rattle.std.proofs.Common.{◌≡◌, ◌<◌, length}
 use Rattle.space_ends.specs.EndsOfSpace.{ends_in}
 use Rattle.space_ends.specs.Spinning.{spinning_in, AreUnmarked}
+use Rattle.space_ends.specs.Loops.{AreAllEnds}
 use Rattle.space_ends.specs.Shown.{AreShownSo}
 use Rattle.space_ends.proofs.spinning.add_spinning.Given as goal
 
@@ -14,4 +15,5 @@ invariant-loop-places g l =
       each : AreUnmarked l.can_end.items (spinning_in l.initial.ends.items)
           → AreUnmarked l.can_end.items (spinning_in l.ends.items);
       shown : AreShownSo l.space l.expected l.initial.ends.items → AreShownSo l.space l.expected l.ends.items;
+      kinds : AreAllEnds l.initial.ends.items → AreAllEnds l.ends.items;
     }

@@ -2,8 +2,10 @@ use Rattle.std.proofs.Common.{sym, ap, subst, ◌∙◌, ◌<◌, length, get_or
 use Rattle.space_ends.specs.EndsOfSpace.{are_ends, ends_in}
 use Rattle.space_ends.specs.Spinning.{are_spinning, spinning_in, AreUnmarked}
 use Rattle.space_ends.specs.Shown.{shown_of, IsFirstMissedBy, IsSpinningSet, AreShownSo}
+use Rattle.space_ends.specs.Loops.{AreAllEnds}
 use Rattle.space_ends.specs.declared.end_values.SpaceEnd.{SpaceEnd}
-use Rattle.space_ends.proofs.Keeping.{ends_push}
+use Rattle.space_ends.specs.Judging.{is_end_kind}
+use Rattle.space_ends.proofs.Keeping.{ends_push, all_ends_push, all_ends_set}
 use Rattle.space_ends.proofs.Spins.{IsSpunAnew, ends_stay, spun_some, spun_each, push_some, push_each}
 use Rattle.space_ends.proofs.Shown.{shown_set, shown_push, shown_place, shown_in, set_with}
 use Rattle.space_ends.proofs.spinning_lines.add_set.Goals as goal
@@ -43,6 +45,8 @@ returns-in_ok-extend_by-in-Some c =
           ((shown_in v expected items index x all anew.below anew.here).set anew.was)
           (subst (IsFirstMissedBy v expected c.args.set.places.items) (sym missed) is.missed))))
           all;
+      kinds = λ kind all.
+          all_ends_set items index y (ap is_end_kind (c.in_ok-extend_by-in-Some.ensures.kind ∙ spins)) all;
     }
 
 pub returns-in_ok-push-in-None : goal.returns-in_ok-push-in-None
@@ -61,4 +65,6 @@ returns-in_ok-push-in-None c =
           subst (AreShownSo v expected) (sym pushed)
           (shown_push v expected items c.args.set
           (shown_set v expected (shown_of c.args.set) (ap are_ends kind) is) all);
+      kinds = λ kind all.
+          subst AreAllEnds (sym pushed) (all_ends_push items c.args.set (ap is_end_kind kind) all);
     }
