@@ -1,6 +1,6 @@
 //! JSON, written piece by piece.
 
-use crate::quoting::push_quoted;
+use crate::quoting::{push_letters, push_quoted};
 use std::alloc::{AllocError, Global};
 
 /// A JSON text that is being written. Where memory is refused for a piece, the text lacks it, and [`Json::whole`] says so
@@ -36,6 +36,11 @@ impl Json {
         self.text.is_empty()
     }
 
+    /// Lacks a piece, for which memory was refused.
+    pub fn lack_piece(&mut self) {
+        self.lacks_pieces = true;
+    }
+
     /// Adds a piece as it is.
     fn push(&mut self, piece: &str) {
         if self.text.push_str(piece).is_err() {
@@ -46,6 +51,13 @@ impl Json {
     /// Adds a text as a JSON string.
     fn push_string(&mut self, text: &str) {
         if push_quoted(&mut self.text, text).is_err() {
+            self.lacks_pieces = true;
+        }
+    }
+
+    /// Adds the characters of a JSON string.
+    fn push_letters(&mut self, text: &str) {
+        if push_letters(&mut self.text, text).is_err() {
             self.lacks_pieces = true;
         }
     }
@@ -74,6 +86,13 @@ impl Json {
     /// Begins a list that is a member.
     pub fn open_list(&mut self, name: &str) {
         self.key(name);
+        self.push("[");
+    }
+
+    /// Begins a list that is a value.
+    pub fn begin_list(&mut self) {
+        self.begin();
+        self.is_fresh = true;
         self.push("[");
     }
 
@@ -111,10 +130,29 @@ impl Json {
         self.text(text);
     }
 
+    /// Writes a member that is two texts, one behind the other.
+    pub fn joined_of(&mut self, name: &str, front: &str, back: &str) {
+        self.key(name);
+        self.is_fresh = false;
+        self.push("\"");
+        self.push_letters(front);
+        self.push_letters(back);
+        self.push("\"");
+    }
+
     /// Writes a member that is a number.
     pub fn number_of(&mut self, name: &str, number: u64) {
         self.key(name);
         self.number(number);
+    }
+
+    /// Writes a member that is a number below 0, by what is left without its sign.
+    pub fn negative_of(&mut self, name: &str, number: u64) {
+        self.key(name);
+        self.is_fresh = false;
+        if write!(self.text, "-{number}").is_err() {
+            self.lacks_pieces = true;
+        }
     }
 
     /// Writes a member that is a reference: a number as a text, hexadecimal after `0x`.

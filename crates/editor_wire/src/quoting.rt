@@ -17,7 +17,7 @@ pub fn push_quoted(out: &mut String, text: &str) -> Result<(), AllocError>
 }
 
 /// Adds the characters of a string.
-fn push_letters(out: &mut String, text: &str) -> Result<(), AllocError>
+pub(crate) fn push_letters(out: &mut String, text: &str) -> Result<(), AllocError>
     ensures { OnOk result (string_bytes out.new
         ≡ string_bytes out.old ++ flat_map string_char (chars text.now)) }
 {

@@ -22,13 +22,38 @@ pub fn message_of(alloc: Global, frame: &Frame) -> Result<Value, AllocError> {
     }
 }
 
-/// How many values a text has at most.
+/// How many values a text has at most. What stands within a string is none.
 fn values_in(text: &[u8]) -> usize {
     let mut count: usize = 1;
+    let mut state = Inside::Values;
     for byte in text {
-        if matches!(*byte, b',' | b':' | b'[' | b'{') {
+        if state == Inside::Values && matches!(*byte, b',' | b':' | b'[' | b'{') {
             count = count.saturating_add(1);
         }
+        state = state.after(*byte);
     }
     count
+}
+
+/// Where in a text of JSON a byte stands.
+#[derive(Clone, Copy, PartialEq, Eq)]
+enum Inside {
+    /// Outside of strings.
+    Values,
+    /// In a string.
+    Text,
+    /// In a string, behind a backslash.
+    Escape,
+}
+
+impl Inside {
+    /// Where the byte after this one stands.
+    fn after(self, byte: u8) -> Inside {
+        match (self, byte) {
+            (Inside::Values, b'"') | (Inside::Escape, _) => Inside::Text,
+            (Inside::Text, b'"') => Inside::Values,
+            (Inside::Text, b'\\') => Inside::Escape,
+            (place, _) => place,
+        }
+    }
 }
