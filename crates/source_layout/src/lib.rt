@@ -7,4 +7,4 @@ mod lines;
 mod same_image;
 mod statements;
 
-pub use same_image::laid_out;
+pub use same_image::{laid_out, mean_one_image};

@@ -33,8 +33,8 @@ pub fn laid_out(alloc: Global, text: &[u8]) -> Result<Option<Vec<u8>>, AllocErro
     }
 }
 
-/// Whether two texts mean one image.
-fn mean_one_image(alloc: Global, text: &[u8], other: &[u8]) -> Result<bool, AllocError>
+/// Whether two texts mean one image. Comments may have any bytes. Only memory can be missing.
+pub fn mean_one_image(alloc: Global, text: &[u8], other: &[u8]) -> Result<bool, AllocError>
     ensures { IfOk result (λ same. IsTrue same → MeanOneImage text.now other.now) }
 {
     let Some(image) = image_of(alloc, text)? else {
