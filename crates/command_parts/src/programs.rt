@@ -2,12 +2,12 @@
 
 use crate::inputs::Inputs;
 use crate::lab_fault::LabFault;
-use crate::sources::SourceText;
 use asm_text::{AsmFault, Fault, assemble, listing};
 use fault_messages::{Message, push_message};
 use image_file::{Image, ImageFault, read_image};
 use input_faults::image_fault_words;
 use plain_text::plain;
+use source_checks::SourceText;
 use std::alloc::{AllocError, AllocFailed, Global};
 use std::io::Read;
 use std::rt::Files;

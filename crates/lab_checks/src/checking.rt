@@ -1,8 +1,6 @@
 //! The command `check`.
 
 use crate::messages::push_message_object;
-use crate::names::add_names;
-use crate::slips::add_slips;
 use command_parts::{
     CommandAnswer, Inputs, LabFault, Program, SourceText, Status, check_loose_schedule, is_image,
     read_program,
@@ -13,6 +11,7 @@ use image_file::{ImageFault, read_image};
 use input_faults::image_fault_words;
 use lab_requests::{CheckRequest, FileKind};
 use plain_text::plain;
+use source_checks::source_messages;
 use std::alloc::{AllocError, Global};
 use std::io::Read;
 use std::rt::Files;
@@ -161,9 +160,7 @@ fn judge(
     match kind {
         FileKind::Source => {
             let source = SourceText::of(alloc, bytes)?;
-            let mut messages = source.messages(alloc)?;
-            add_slips(alloc, source.ascii(), &mut messages)?;
-            add_names(alloc, source.ascii(), &mut messages)?;
+            let messages = source_messages(alloc, &source)?;
             let text = source.into_written();
             Ok(CheckedFile { text, messages })
         }

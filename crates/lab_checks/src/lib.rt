@@ -6,10 +6,8 @@ mod assembling;
 mod checking;
 mod layouts;
 mod messages;
-mod names;
 mod new_programs;
 mod scheduling;
-mod slips;
 mod words;
 
 pub use assembling::assemble_file;

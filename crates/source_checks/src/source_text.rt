@@ -58,7 +58,7 @@ impl SourceText {
     }
 
     /// The text as it is shown: as it was written where all of it can be shown, else with its comments in ASCII.
-    pub(crate) fn into_shown(self) -> Vec<u8> {
+    pub fn into_shown(self) -> Vec<u8> {
         let SourceText { written, ascii, .. } = self;
         match ascii {
             Some(ascii) if !is_showable(&written) => ascii,
