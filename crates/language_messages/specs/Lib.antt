@@ -1,0 +1,2 @@
+-- which messages are responses, and to which requests
+pub mod Responses
