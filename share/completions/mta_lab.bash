@@ -9,6 +9,7 @@ _mta_lab_options() {
     view) echo '--fair --seed --steps --from --to --only --word --columns --all --hex --json --color --help' ;;
     debug) echo '--fair --seed --steps --color --help' ;;
     dap) echo '--color --help' ;;
+    lsp) echo '--color --help' ;;
     compare) echo '--seeds --steps --hex --json --color --help' ;;
     survey)
       echo '--seeds --from --steps --expect --explore --states --seconds --memory --hex --json --color --help'
@@ -30,8 +31,8 @@ _mta_lab_options() {
     word) echo '--color --help' ;;
     new) echo '--color --help' ;;
     *)
-      echo 'check fmt schedule view debug dap compare survey explore grade exercise page picture play asm explain
-        word new --color --help --version'
+      echo 'check fmt schedule view debug dap lsp compare survey explore grade exercise page picture play asm
+        explain word new --color --help --version'
       ;;
   esac
 }

@@ -5,6 +5,7 @@ complete -c mta_lab -f -n __fish_use_subcommand -a schedule -d 'Makes a schedule
 complete -c mta_lab -f -n __fish_use_subcommand -a view -d 'Shows a run step by step, and how it ends'
 complete -c mta_lab -f -n __fish_use_subcommand -a debug -d 'Goes forward and back in a run, by the lines of standard input'
 complete -c mta_lab -f -n __fish_use_subcommand -a dap -d 'Lets an editor debug a program, by the Debug Adapter Protocol'
+complete -c mta_lab -f -n __fish_use_subcommand -a lsp -d 'Shows an editor faults, names and layouts, by the Language Server Protocol'
 complete -c mta_lab -f -n __fish_use_subcommand -a compare -d 'Shows where two schedules of a program first differ, and both ends'
 complete -c mta_lab -f -n __fish_use_subcommand -a survey -d 'Runs many random schedules, and counts their ends'
 complete -c mta_lab -f -n __fish_use_subcommand -a explore -d 'Shows every end that schedules of a program can reach'
@@ -24,7 +25,7 @@ complete -c mta_lab -n '__fish_seen_subcommand_from fmt asm' -f -k -a '(__fish_c
 complete -c mta_lab -n '__fish_seen_subcommand_from schedule' -f -a 'rounds fair random'
 complete -c mta_lab -n '__fish_seen_subcommand_from schedule survey explore grade play' -f -k -a '(__fish_complete_suffix .asm; __fish_complete_suffix .image)'
 complete -c mta_lab -n '__fish_seen_subcommand_from view debug compare page picture' -f -k -a '(__fish_complete_suffix .asm; __fish_complete_suffix .image; __fish_complete_suffix .schedule)'
-complete -c mta_lab -n '__fish_seen_subcommand_from dap word new' -f
+complete -c mta_lab -n '__fish_seen_subcommand_from dap lsp word new' -f
 complete -c mta_lab -n '__fish_seen_subcommand_from exercise' -f -a '1 2 3 4 5 6 7 8 9 10 11 12 13 14 15 16 17 18 19 20 21 22 23 24 25 26'
 complete -c mta_lab -n '__fish_seen_subcommand_from explain' -f -a '.N normal .F future .S sync .T test full empty full/empty r0 t0 SSW status pointer ADD SUB MUL AND OR XOR ANDN SHL SHR SAR TALLY LTS LTU PTR stream processor schedule seed state race lost_update lost unread_store unread torn_read torn finding waiting waits trap word displacement pc lock complete expectation expect claim ALWAYS EQ NE LT GE LE GT GEU LEU GTU NEG POS OV NOV Z N C V JUMP SKIP CALL XCHG TSET TGET XGET XR RESERVE CREATE QUIT QUITP MASK NOP LIT LITH TLIT .entry .data .fill .word .slim .retry .trap .profile .chain E1 NotAscii E2 Unknown E3 Operand E4 Range E5 TwoWriters E6 LabelTwice E7 LabelMissing E8 Directive E9 Limit E10 NoMemory 101 102 103 104 105 106 107 108 109 110 111 112 113 114 115 116 LOAD STORE FADD TAGGET TAGSET PURGE 1 PROGRAM 2 ILLEGAL 3 TRAP3 4 TRAP4 POINTER 5 ALIGN 6 RANGE 7 TRAP0 8 TRAP1 9 FORWARD 10 TRAP10 DONE BLOCKED TRAPPED STOPPED SKIPPED deadlock spinning'
 

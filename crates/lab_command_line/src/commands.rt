@@ -29,6 +29,8 @@ pub(crate) enum CommandName {
     Debug,
     /// `dap`.
     Dap,
+    /// `lsp`.
+    Lsp,
     /// `compare`.
     Compare,
     /// `survey`.
@@ -71,7 +73,7 @@ pub(crate) struct CommandWords {
 }
 
 /// The commands, in the order of the help.
-pub(crate) const COMMANDS: [CommandWords; 18] = [
+pub(crate) const COMMANDS: [CommandWords; 19] = [
     CommandWords {
         command: CommandName::Check,
         name: "check",
@@ -112,6 +114,13 @@ pub(crate) const COMMANDS: [CommandWords; 18] = [
         name: "dap",
         about: "Lets an editor debug a program, by the Debug Adapter Protocol",
         long: help::DAP,
+        arguments: &[],
+    },
+    CommandWords {
+        command: CommandName::Lsp,
+        name: "lsp",
+        about: "Shows an editor faults, names and layouts, by the Language Server Protocol",
+        long: help::LSP,
         arguments: &[],
     },
     CommandWords {

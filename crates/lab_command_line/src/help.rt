@@ -83,6 +83,15 @@ and the schedule. docs/EDITORS.md says what to set in VS Code, Neovim and Emacs.
 Example:
   mta_lab dap";
 
+pub(crate) const LSP: &str = "\
+Answers an editor while source texts are written: it reads messages of the Language Server
+Protocol from standard input, and answers on standard output. The editor shows what
+check says, what words mean and where labels stand, completes and renames them, and lays texts out
+as fmt does. The editor starts it. docs/EDITORS.md says what to set.
+
+Example:
+  mta_lab lsp";
+
 pub(crate) const COMPARE: &str = "\
 Shows the first step at which two schedules of a program differ, the first position at which
 the states differ, and in what, and both ends. With --seeds ONE and OTHER are seeds of random

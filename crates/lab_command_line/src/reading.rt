@@ -94,6 +94,7 @@ fn asked_of<'a>(
         CommandName::View => Ok(LabCommand::View(view_of(found))),
         CommandName::Debug => Ok(debug_of(found)),
         CommandName::Dap => Ok(LabCommand::Adapt),
+        CommandName::Lsp => Ok(LabCommand::ServeLanguage),
         CommandName::Compare => Ok(compare_of(found)),
         CommandName::Survey => Ok(LabCommand::Survey(survey_of(found))),
         CommandName::Explore => Ok(LabCommand::Explore(explore_of(found))),

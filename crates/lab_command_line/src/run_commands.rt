@@ -174,6 +174,7 @@ pub(crate) fn misfit_of(command: CommandName, found: &ArgMatches) -> Option<&'st
         | CommandName::View
         | CommandName::Debug
         | CommandName::Dap
+        | CommandName::Lsp
         | CommandName::Survey
         | CommandName::Explore
         | CommandName::Grade

@@ -52,6 +52,7 @@ fn standard_inputs(command: &LabCommand) -> usize {
         LabCommand::LayOut(request) => count_in(&request.files),
         LabCommand::Assemble { source, .. } => count_of(&[Some(*source)]),
         LabCommand::Adapt
+        | LabCommand::ServeLanguage
         | LabCommand::Exercise(_)
         | LabCommand::Explain { .. }
         | LabCommand::Word { .. }

@@ -330,8 +330,10 @@ pub enum LabCommand<'a> {
         program: &'a str,
         run: RunChoice<'a>,
     },
-    /// Answers the requests of an editor.
+    /// Answers the requests of an editor that debugs.
     Adapt,
+    /// Answers what an editor asks of source texts.
+    ServeLanguage,
     /// Shows where two schedules of a program part.
     Compare {
         program: &'a str,

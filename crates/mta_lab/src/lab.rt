@@ -9,6 +9,7 @@ use lab_debugger::{Screen, debug};
 use lab_exercises::exercise;
 use lab_explorer::show_every_end;
 use lab_grades::{grade, merge};
+use lab_language::serve_language;
 use lab_pages::{write_page, write_picture, write_play_page};
 use lab_requests::{Colours, LabCommand};
 use lab_surveys::survey;
@@ -155,6 +156,7 @@ fn run_command<X: Threads + Wait + Sync + Clock, F: Files, R: Read + Send, W: Wr
 ) -> Result<Status, LabFault> {
     match command {
         LabCommand::Adapt => adapt(rt, alloc, inputs.files, inputs.input, outputs.output),
+        LabCommand::ServeLanguage => serve_language(rt, alloc, inputs.input, outputs.output),
         LabCommand::Debug { program, run } => {
             let mut screen = Screen {
                 output: &mut *outputs.output,
@@ -232,7 +234,9 @@ fn answer_to<X: Threads + Wait + Sync + Clock, F: Files, R: Read, W: Write, E: W
             shown,
         } => compare(alloc, inputs, program, *one, *other, *shown),
         // (these have their own way of writing)
-        LabCommand::Debug { .. } | LabCommand::Adapt => Err(LabFault::Closed),
+        LabCommand::Debug { .. } | LabCommand::Adapt | LabCommand::ServeLanguage => {
+            Err(LabFault::Closed)
+        }
         LabCommand::Survey(request) => survey(rt, alloc, inputs, request, console),
         LabCommand::Explore(request) => show_every_end(alloc, inputs, request, console),
         LabCommand::Grade(request) => grade(rt, alloc, inputs, request, printer, console),

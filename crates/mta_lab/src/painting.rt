@@ -58,6 +58,7 @@ fn is_for_people(command: &LabCommand) -> bool {
         | LabCommand::Schedule { .. }
         | LabCommand::Debug { .. }
         | LabCommand::Adapt
+        | LabCommand::ServeLanguage
         | LabCommand::Page(_)
         | LabCommand::Picture(_)
         | LabCommand::Play(_)

@@ -1,0 +1,7 @@
+//! The command `lsp`: the language in editors.
+#![tactic(auto)]
+
+mod serving;
+mod transport;
+
+pub use serving::serve_language;
