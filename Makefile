@@ -54,7 +54,7 @@ help:
 	@echo "make refuse     the part of it that refuses each allocation of the commands in turn (some minutes)"
 	@echo "make spaces     compares mta_lab on 4,500 random programs with a search, and steps, by a machine of the tests' own (three minutes)"
 	@echo "make pages      the pages in a browser; needs chromium, its driver and Python's selenium, and says what is missing (some minutes)"
-	@echo "make editors    the syntax files, asked by the editors that read them; mta_lab dap by a client that others' library makes. Says what is missing (seconds)"
+	@echo "make editors    the syntax files, asked by the editors that read them; mta_lab lsp by their clients; mta_lab dap by a client that others' library makes. Says what is missing (seconds)"
 	@echo "make recipes    recipes of docs/GRADING.md that take a bare system, a cluster or a spreadsheet: debootstrap's root, Slurm, LibreOffice. Says what is missing (a minute)"
 	@echo "make bench      time, instructions and peak memory on the longest inputs (some minutes; valgrind counts instructions)"
 	@echo "make install    puts the built programs, their examples and documents under PREFIX, $(PREFIX) (a second)"
@@ -164,10 +164,11 @@ spaces: built
 	@python3 tests/spaces/slips.py
 	@python3 tests/spaces/sentences.py
 
-# what Vim, Neovim, Emacs, Pygments and pandoc take each part of a source text for; then mta_lab dap by a client of the Debug
-# Adapter Protocol on a library that others wrote
+# what Vim, Neovim, Emacs, Pygments and pandoc take each part of a source text for; then what the clients of Neovim, Emacs and
+# VS Code show of mta_lab lsp, and mta_lab dap by a client of the Debug Adapter Protocol on a library that others wrote
 editors:
 	@python3 tests/editor_files.py
+	@python3 tests/language_clients
 	@tests/adapter_go/run.sh
 
 # recipes of docs/GRADING.md that take more than the program: Gradescope's in a bare Debian (DEBIAN=FOLDER: what debootstrap has

@@ -11,6 +11,7 @@ from xml.sax.saxutils import quoteattr, escape
 
 TYPES = """<?xml version="1.0" encoding="utf-8"?>
 <Types xmlns="http://schemas.openxmlformats.org/package/2006/content-types">
+<Default Extension=".js" ContentType="application/javascript"/>
 <Default Extension=".json" ContentType="application/json"/>
 <Default Extension=".md" ContentType="text/markdown"/>
 <Default Extension=".txt" ContentType="text/plain"/>
