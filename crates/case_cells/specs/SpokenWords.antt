@@ -8,6 +8,8 @@ use Rattle.claims.specs.declared.claim.ClaimForm.TheVariants as form
 use Rattle.expectations.specs.WordRanges.{word_count}
 use Rattle.expectations.specs.declared.expectation.Expectation.{Expectation}
 use Rattle.expectations.specs.declared.expectation.Expectation.TheVariants as expect
+use Rattle.work_rules.specs.declared.work_rule.WorkRule.{WorkRule}
+use Rattle.work_rules.specs.declared.work_rule.WorkRule.TheVariants as work
 use Rattle.expectation_files.specs.declared.requirements.Requirements.{Requirements}
 use Rattle.case_cells.specs.declared.named_words.WordPlaces.{WordPlaces}
 use Rattle.case_cells.specs.declared.line_words.SpokenRange.{SpokenRange}
@@ -37,9 +39,15 @@ spoken_in_form (form.AtMost most ts first last) = no_words
 abbrev pub spoken_in_claim : Claim → SpokenWords
 spoken_in_claim c = spoken_in_form c.form
 
--- those of all lines about the end, and then those of all claims
+-- the words of which a line about who does the work speaks
+abbrev pub spoken_in_work : WorkRule → SpokenWords
+spoken_in_work (work.Writes t a) = record { one = range a a; other = None }
+spoken_in_work (work.AtLeast count first last) = record { one = range first last; other = None }
+
+-- those of all lines about the end, then those of all claims, and then those of all lines about who does the work
 abbrev pub spoken_words : Requirements → List SpokenWords
-spoken_words r = map spoken_at_end r.ends.items ++ map spoken_in_claim r.claims.items
+spoken_words r =
+    map spoken_at_end r.ends.items ++ (map spoken_in_claim r.claims.items ++ map spoken_in_work r.work.items)
 
 -- whether this word of a submission is that word of a case, by a place
 abbrev pub is_word_at : ℕ → ℕ → WordPlaces → Bool

@@ -2,14 +2,15 @@
 
 ghost use Rattle.std.specs.Prelude.{◌≡◌, ◌+◌, ◌*◌, ◌≤◌, ◌<◌, ℕ, Some, map, IfOk};
 ghost use Rattle.expectations.specs.WordRanges.{word_count};
-ghost use Rattle.case_cells.specs.SpokenWords.{spoken_at_end, spoken_in_claim, spoken_words, is_word_at, is_same_word};
-ghost use Rattle.case_cells.specs.SpokenWords.{are_same_words, is_same_range, is_alike, first_other};
+ghost use Rattle.case_cells.specs.SpokenWords.{spoken_at_end, spoken_in_claim, spoken_in_work, spoken_words};
+ghost use Rattle.case_cells.specs.SpokenWords.{is_word_at, is_same_word, are_same_words, is_same_range, is_alike, first_other};
 
 use crate::named_words::WordPlaces;
 use claims::{Claim, ClaimForm};
 use expectation_files::Requirements;
 use expectations::Expectation;
 use std::alloc::{AllocError, Global};
+use work_rules::WorkRule;
 
 /// The words from one to another.
 #[derive(Clone, Copy, Debug, PartialEq, Eq)]
@@ -29,13 +30,16 @@ pub struct SpokenWords {
     pub other: Option<SpokenRange>,
 }
 
-/// The words of which the lines about the end speak, and then those of the claims, in their order.
+/// The words of which the lines about the end speak, then those of the claims, and then those of the lines about who does the
+/// work, in their order.
 pub fn spoken_words(alloc: Global, required: &Requirements) -> Result<Vec<SpokenWords>, AllocError>
     ensures { IfOk result (λ words. words.items ≡ spoken_words required.now) }
 {
     let mut words = words_of_ends(alloc, required.ends())?;
-    let of_claims = words_of_claims(alloc, required.claims())?;
-    words.extend_from_slice(&of_claims)?;
+    let mut others = words_of_claims(alloc, required.claims())?;
+    let of_work = words_of_work(alloc, required.work())?;
+    others.extend_from_slice(&of_work)?;
+    words.extend_from_slice(&others)?;
     Ok(words)
 }
 
@@ -59,6 +63,28 @@ fn words_of_claims(alloc: Global, claims: &[Claim]) -> Result<Vec<SpokenWords>, 
         words.push(spoken_in_claim(claim))?;
     }
     Ok(words)
+}
+
+/// The words of which lines about who does the work speak.
+fn words_of_work(alloc: Global, rules: &[WorkRule]) -> Result<Vec<SpokenWords>, AllocError>
+    ensures { IfOk result (λ words. words.items ≡ map spoken_in_work rules.now) }
+{
+    let mut words = Vec::new(alloc);
+    for rule in rules {
+        words.push(spoken_in_work(*rule))?;
+    }
+    Ok(words)
+}
+
+/// The words of which a line about who does the work speaks.
+fn spoken_in_work(rule: WorkRule) -> SpokenWords
+    ensures { result ≡ spoken_in_work rule }
+{
+    let one = match rule {
+        WorkRule::Writes { address, .. } => one_word(address),
+        WorkRule::AtLeast { first, last, .. } => Some(SpokenRange { first, last }),
+    };
+    SpokenWords { one, other: None }
 }
 
 /// The words of which a line about the end speaks.

@@ -42,6 +42,7 @@ impl<'a> ShownMistake<'a> {
             | Reason::NoRun { .. }
             | Reason::NoRunCan
             | Reason::Rule(_)
+            | Reason::Work(_)
             | Reason::Absent { .. }
             | Reason::Lacking { .. }
             | Reason::NotGiven { .. } => None,
@@ -108,6 +109,7 @@ fn push_missed(seen: &mut Vec<Observation>, shown: ShownMistake<'_>) -> Result<(
             Ok(seen.push(Observation::of(ObservationKind::Claim))?)
         }
         Some(MissedLine::Rule(_)) => Ok(seen.push(Observation::of(ObservationKind::Rule))?),
+        Some(MissedLine::Work(_)) => Ok(seen.push(Observation::of(ObservationKind::Missed))?),
         Some(MissedLine::Absent { .. }) => {
             Ok(seen.push(Observation::of(ObservationKind::Absent))?)
         }

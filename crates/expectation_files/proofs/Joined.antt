@@ -5,9 +5,10 @@ use Rattle.std.specs.Option.{option_or}
 use Rattle.std.proofs.Math.ListN.{replicate}
 use Rattle.expectations.specs.declared.expectation.Expectation.{Expectation}
 use Rattle.program_rules.specs.declared.program_rule.ProgramRule.{ProgramRule}
+use Rattle.work_rules.specs.declared.work_rule.WorkRule.{WorkRule}
 use Rattle.expectation_files.specs.Words.{words_on, in_one_line}
 use Rattle.expectation_files.specs.ClaimLines.{ClaimValue}
-use Rattle.expectation_files.specs.Lines.{End, Claimed, Rules, NeverBusy}
+use Rattle.expectation_files.specs.Lines.{End, Claimed, Rules, Work, NeverBusy}
 use Rattle.expectation_files.specs.Files.{RequirementsValue, FileSaid, nothing_said, said_on, joined, in_front, texts_of_rules}
 
 or_none : (o : Option ℕ) → option_or o None ≡ o
@@ -30,6 +31,9 @@ joined_nothing v =
       append-nil v.rules,
       append-nil v.rule_numbers,
       append-nil v.rule_texts,
+      append-nil v.work,
+      append-nil v.work_numbers,
+      append-nil v.work_texts,
       or_none v.never_busy,
     ) refl
 
@@ -44,6 +48,9 @@ pub joined_end : (v : RequirementsValue) (e : Expectation) (k : ℕ) (l : List �
       rules = v.rules;
       rule_numbers = v.rule_numbers;
       rule_texts = v.rule_texts;
+      work = v.work;
+      work_numbers = v.work_numbers;
+      work_texts = v.work_texts;
       never_busy = v.never_busy;
     }
 joined_end v e k l =
@@ -54,6 +61,9 @@ joined_end v e k l =
       append-nil v.rules,
       append-nil v.rule_numbers,
       append-nil v.rule_texts,
+      append-nil v.work,
+      append-nil v.work_numbers,
+      append-nil v.work_texts,
       or_none v.never_busy,
     ) refl
 
@@ -68,6 +78,9 @@ pub joined_claim : (v : RequirementsValue) (c : ClaimValue) (k : ℕ) (l : List 
       rules = v.rules;
       rule_numbers = v.rule_numbers;
       rule_texts = v.rule_texts;
+      work = v.work;
+      work_numbers = v.work_numbers;
+      work_texts = v.work_texts;
       never_busy = v.never_busy;
     }
 joined_claim v c k l =
@@ -78,6 +91,9 @@ joined_claim v c k l =
       append-nil v.rules,
       append-nil v.rule_numbers,
       append-nil v.rule_texts,
+      append-nil v.work,
+      append-nil v.work_numbers,
+      append-nil v.work_texts,
       or_none v.never_busy,
     ) refl
 
@@ -92,6 +108,9 @@ pub joined_rules : (v : RequirementsValue) (rs : List ProgramRule) (k : ℕ) (l 
       rules = v.rules ++ rs;
       rule_numbers = v.rule_numbers ++ replicate (length rs) k;
       rule_texts = v.rule_texts ++ texts_of_rules (words_on l) (length rs);
+      work = v.work;
+      work_numbers = v.work_numbers;
+      work_texts = v.work_texts;
       never_busy = v.never_busy;
     }
 joined_rules v rs k l =
@@ -102,6 +121,39 @@ joined_rules v rs k l =
       append-nil v.claims,
       append-nil v.claim_numbers,
       append-nil v.claim_texts,
+      append-nil v.work,
+      append-nil v.work_numbers,
+      append-nil v.work_texts,
+      or_none v.never_busy,
+    ) refl
+
+pub joined_work : (v : RequirementsValue) (rs : List WorkRule) (k : ℕ) (l : List ℕ) → joined v (said_on k l (Work rs))
+    ≡ record {
+      ends = v.ends;
+      end_numbers = v.end_numbers;
+      end_texts = v.end_texts;
+      claims = v.claims;
+      claim_numbers = v.claim_numbers;
+      claim_texts = v.claim_texts;
+      rules = v.rules;
+      rule_numbers = v.rule_numbers;
+      rule_texts = v.rule_texts;
+      work = v.work ++ rs;
+      work_numbers = v.work_numbers ++ replicate (length rs) k;
+      work_texts = v.work_texts ++ texts_of_rules (words_on l) (length rs);
+      never_busy = v.never_busy;
+    }
+joined_work v rs k l =
+    rw (
+      append-nil v.ends,
+      append-nil v.end_numbers,
+      append-nil v.end_texts,
+      append-nil v.claims,
+      append-nil v.claim_numbers,
+      append-nil v.claim_texts,
+      append-nil v.rules,
+      append-nil v.rule_numbers,
+      append-nil v.rule_texts,
       or_none v.never_busy,
     ) refl
 
@@ -116,6 +168,9 @@ pub joined_busy : (v : RequirementsValue) (k : ℕ) (l : List ℕ) → joined v 
       rules = v.rules;
       rule_numbers = v.rule_numbers;
       rule_texts = v.rule_texts;
+      work = v.work;
+      work_numbers = v.work_numbers;
+      work_texts = v.work_texts;
       never_busy = option_or v.never_busy (Some k);
     }
 joined_busy v k l =
@@ -129,6 +184,9 @@ joined_busy v k l =
       append-nil v.rules,
       append-nil v.rule_numbers,
       append-nil v.rule_texts,
+      append-nil v.work,
+      append-nil v.work_numbers,
+      append-nil v.work_texts,
     ) refl
 
 joined_assoc : (v w u : RequirementsValue) → joined (joined v w) u ≡ joined v (joined w u)
@@ -143,6 +201,9 @@ joined_assoc v w u =
       append_assoc v.rules w.rules u.rules,
       append_assoc v.rule_numbers w.rule_numbers u.rule_numbers,
       append_assoc v.rule_texts w.rule_texts u.rule_texts,
+      append_assoc v.work w.work u.work,
+      append_assoc v.work_numbers w.work_numbers u.work_numbers,
+      append_assoc v.work_texts w.work_texts u.work_texts,
       or_assoc v.never_busy w.never_busy u.never_busy,
     ) refl
 

@@ -9,10 +9,11 @@ use Rattle.text_parts.specs.Pieces.{pieces}
 use Rattle.image_file.specs.ImageValue.{ImageValue}
 use Rattle.expectations.specs.declared.expectation.Expectation.{Expectation}
 use Rattle.program_rules.specs.declared.program_rule.ProgramRule.{ProgramRule}
+use Rattle.work_rules.specs.declared.work_rule.WorkRule.{WorkRule}
 use Rattle.expectation_files.specs.Words.{words_on, in_one_line}
 use Rattle.expectation_files.specs.Addresses.{Names}
 use Rattle.expectation_files.specs.ClaimLines.{ClaimValue}
-use Rattle.expectation_files.specs.Lines.{Meaning, Nothing, End, Claimed, Rules, NeverBusy, Marked, MeaningSaid}
+use Rattle.expectation_files.specs.Lines.{Meaning, Nothing, End, Claimed, Rules, Work, NeverBusy, Marked, MeaningSaid}
 use Rattle.expectation_files.specs.Lines.{said_after, has_after}
 use Rattle.expectation_files.specs.declared.faults.FileFault.{FileFault}
 use Rattle.expectation_files.specs.declared.faults.FileFault.TheVariants as file
@@ -29,6 +30,9 @@ pub record RequirementsValue : Type 0 where
   pub rules : List ProgramRule
   pub rule_numbers : List ℕ
   pub rule_texts : List (List ℕ)
+  pub work : List WorkRule
+  pub work_numbers : List ℕ
+  pub work_texts : List (List ℕ)
   pub never_busy : Option ℕ
 
 abbrev pub nothing_said : RequirementsValue
@@ -42,6 +46,9 @@ nothing_said = record {
   rules = [];
   rule_numbers = [];
   rule_texts = [];
+  work = [];
+  work_numbers = [];
+  work_texts = [];
   never_busy = None;
 }
 
@@ -54,7 +61,7 @@ abbrev pub words_of_rule : ℕ → List (List ℕ) → List (List ℕ)
 words_of_rule k [] = []
 words_of_rule k (name ∷ os) = if names_operations name then name ∷ slice_index_or os k [] ∷ [] else name ∷ os
 
--- the texts of the first so many rules of a line with these words
+-- the texts of the first so many rules of a line with these words, of programs or of who does the work
 abbrev pub texts_of_rules : List (List ℕ) → ℕ → List (List ℕ)
 texts_of_rules ws zero = []
 texts_of_rules ws (suc k) = texts_of_rules ws k ++ in_one_line (words_of_rule k ws) ∷ []
@@ -72,6 +79,9 @@ said_on k l (End e) = record {
   rules = [];
   rule_numbers = [];
   rule_texts = [];
+  work = [];
+  work_numbers = [];
+  work_texts = [];
   never_busy = None;
 }
 said_on k l (Claimed c) = record {
@@ -84,6 +94,9 @@ said_on k l (Claimed c) = record {
   rules = [];
   rule_numbers = [];
   rule_texts = [];
+  work = [];
+  work_numbers = [];
+  work_texts = [];
   never_busy = None;
 }
 said_on k l (Rules rs) = record {
@@ -96,6 +109,24 @@ said_on k l (Rules rs) = record {
   rules = rs;
   rule_numbers = replicate (length rs) k;
   rule_texts = texts_of_rules (words_on l) (length rs);
+  work = [];
+  work_numbers = [];
+  work_texts = [];
+  never_busy = None;
+}
+said_on k l (Work rs) = record {
+  ends = [];
+  end_numbers = [];
+  end_texts = [];
+  claims = [];
+  claim_numbers = [];
+  claim_texts = [];
+  rules = [];
+  rule_numbers = [];
+  rule_texts = [];
+  work = rs;
+  work_numbers = replicate (length rs) k;
+  work_texts = texts_of_rules (words_on l) (length rs);
   never_busy = None;
 }
 said_on k l NeverBusy = record {
@@ -108,6 +139,9 @@ said_on k l NeverBusy = record {
   rules = [];
   rule_numbers = [];
   rule_texts = [];
+  work = [];
+  work_numbers = [];
+  work_texts = [];
   never_busy = Some k;
 }
 said_on k l (Marked m) = nothing_said
@@ -124,6 +158,9 @@ joined v w = record {
   rules = v.rules ++ w.rules;
   rule_numbers = v.rule_numbers ++ w.rule_numbers;
   rule_texts = v.rule_texts ++ w.rule_texts;
+  work = v.work ++ w.work;
+  work_numbers = v.work_numbers ++ w.work_numbers;
+  work_texts = v.work_texts ++ w.work_texts;
   never_busy = option_or v.never_busy w.never_busy;
 }
 
@@ -148,7 +185,9 @@ lines_said names i has k (l ∷ ls) =
 
 -- whether nothing is said
 abbrev pub is_nothing : RequirementsValue → Bool
-is_nothing v = length v.ends == 0 && (length v.claims == 0 && (length v.rules == 0 && not (is_some v.never_busy)))
+is_nothing v =
+    length v.ends == 0
+    && (length v.claims == 0 && (length v.rules == 0 && (length v.work == 0 && not (is_some v.never_busy))))
 
 -- a file has to say something
 abbrev pub unless_nothing : FileSaid → FileSaid

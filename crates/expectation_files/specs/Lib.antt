@@ -7,6 +7,7 @@ pub mod WordLines
 pub mod EndLines
 pub mod ClaimLines
 pub mod RuleLines
+pub mod WorkLines
 pub mod Marks
 pub mod Lines
 pub mod Files

@@ -5,12 +5,14 @@ use Rattle.image_file.specs.ImageValue.{ImageValue}
 use Rattle.claims.specs.declared.claim.Scope.TheVariants.{Always, Never, Once}
 use Rattle.expectations.specs.declared.expectation.Expectation.{Expectation}
 use Rattle.program_rules.specs.declared.program_rule.ProgramRule.{ProgramRule}
+use Rattle.work_rules.specs.declared.work_rule.WorkRule.{WorkRule}
 use Rattle.expectation_files.specs.Words.{words_on}
 use Rattle.expectation_files.specs.Addresses.{Names}
 use Rattle.expectation_files.specs.WordLines.{Said, at, word_said, words_said, sum_said}
 use Rattle.expectation_files.specs.EndLines.{register_said, finished_said, stopped_said}
 use Rattle.expectation_files.specs.ClaimLines.{ClaimValue, claim_said}
 use Rattle.expectation_files.specs.RuleLines.{RulesSaid, entries_said, most_words_said, operations_said}
+use Rattle.expectation_files.specs.WorkLines.{WorkSaid, each_said, least_said}
 use Rattle.expectation_files.specs.Marks.{MarkSaid, mark_named}
 use Rattle.expectation_files.specs.declared.marks.CaseMark.{CaseMark}
 use Rattle.expectation_files.specs.declared.marks.CaseMark.TheVariants as mark
@@ -18,13 +20,14 @@ use Rattle.expectation_files.specs.declared.faults.LineFault.{LineFault}
 use Rattle.expectation_files.specs.declared.faults.LineFaultKind.TheVariants as fault
 use Rattle.expectation_files.specs.declared.rule_lines.OperationVerb.TheVariants.{Forbid, Require}
 
--- what a line says: nothing; what the end of a run has to be; a claim about worlds; rules for the program; that no stream
--- ever loops alone; how the case counts to which the file belongs
+-- what a line says: nothing; what the end of a run has to be; a claim about worlds; rules for the program; who does the
+-- work in a run; that no stream ever loops alone; how the case counts to which the file belongs
 pub data Meaning : Type 0 where
   Nothing : Meaning
   End : Expectation → Meaning
   Claimed : ClaimValue → Meaning
   Rules : List ProgramRule → Meaning
+  Work : List WorkRule → Meaning
   NeverBusy : Meaning
   Marked : CaseMark → Meaning
 
@@ -42,6 +45,10 @@ claim_of (Ok c) = Ok (Claimed c)
 abbrev pub rules_of : RulesSaid → MeaningSaid
 rules_of (Err f) = Err f
 rules_of (Ok rs) = Ok (Rules rs)
+
+abbrev pub work_of : WorkSaid → MeaningSaid
+work_of (Err f) = Err f
+work_of (Ok rs) = Ok (Work rs)
 
 abbrev pub mark_of : MarkSaid → MeaningSaid
 mark_of (Err f) = Err f
@@ -66,12 +73,23 @@ rules_named name os =
     else (if bytes_eq name (codes "require") then rules_of (operations_said Require os)
     else mark_of (mark_named name os))))
 
+-- whether words are `least` and others behind it
+abbrev pub is_least : List (List ℕ) → Bool
+is_least [] = false
+is_least (w ∷ ws) = bytes_eq w (codes "least")
+
+abbrev pub work_named : Names → List ℕ → List (List ℕ) → MeaningSaid
+work_named names name os =
+    if bytes_eq name (codes "each") then work_of (each_said names os)
+    else (if bytes_eq name (codes "at") && is_least os then work_of (least_said names os)
+    else rules_named name os)
+
 abbrev pub claim_named : Names → ImageValue → List ℕ → List (List ℕ) → MeaningSaid
 claim_named names i name os =
     if bytes_eq name (codes "always") then claim_of (claim_said names i Always os)
     else (if bytes_eq name (codes "never") then never_said names i os
     else (if bytes_eq name (codes "some") then claim_of (claim_said names i Once os)
-    else rules_named name os))
+    else work_named names name os))
 
 abbrev pub meaning_named : Names → ImageValue → List ℕ → List (List ℕ) → MeaningSaid
 meaning_named names i name os =
@@ -99,6 +117,7 @@ is_points Nothing = false
 is_points (End e) = false
 is_points (Claimed c) = false
 is_points (Rules rs) = false
+is_points (Work rs) = false
 is_points NeverBusy = false
 
 -- what a line says after others that say how many points there are or not: a second such line has a fault

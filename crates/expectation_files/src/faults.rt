@@ -32,6 +32,10 @@ pub enum LineForm {
     MostWords,
     /// `forbid` or `require`, about the operations of the program.
     Operations,
+    /// `each`, about a word that each of some streams writes.
+    Each,
+    /// `at least N streams`, about how many streams store to words.
+    Least,
     /// `points`, about the case.
     Points,
     /// `hidden`.

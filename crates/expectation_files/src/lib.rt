@@ -1,4 +1,5 @@
-//! What a file of expectations says: of the end of a run, of the states on the way, and of the program alone
+//! What a file of expectations says: of the end of a run, of the states on the way, of who does the work, and of the program
+//! alone
 //! ("Files of expectations", docs/LAB_REFERENCE.md). It is the one reader of such files.
 #![tactic(auto)]
 
@@ -18,6 +19,7 @@ mod values;
 mod word_lines;
 mod word_spans;
 mod words;
+mod work_lines;
 mod written_lines;
 
 pub use addresses::KnownNames;

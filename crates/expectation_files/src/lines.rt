@@ -2,7 +2,8 @@
 
 ghost use Rattle.std.specs.Prelude.{◌≡◌, ◌||◌, ℕ, List, [], ◌∷◌, Ok, Err, IfOk, IfErr};
 ghost use Rattle.expectation_files.specs.Words.{words_of};
-ghost use Rattle.expectation_files.specs.Lines.{line_said, meaning_named, claim_named, rules_named, never_said};
+ghost use Rattle.expectation_files.specs.Lines.{line_said, meaning_named, claim_named, work_named, rules_named};
+ghost use Rattle.expectation_files.specs.Lines.{never_said, is_least};
 ghost use Rattle.expectation_files.specs.Lines.{is_busy_alone, is_points, said_after, Rules};
 ghost use Rattle.expectation_files.specs.OperandsSeen.{AreOperands};
 ghost use Rattle.expectation_files.specs.Seen.{names_in, meaning_seen};
@@ -17,11 +18,13 @@ use crate::marks::{CaseMark, mark_named};
 use crate::rule_lines::{OperationVerb, read_entries, read_most_words, read_operations};
 use crate::word_lines::{read_sum, read_word, read_words};
 use crate::words::{Operands, next_word, read_operands, statement_of};
+use crate::work_lines::{read_each, read_least};
 use claims::{Claim, Scope};
 use expectations::Expectation;
 use image_file::Image;
 use program_rules::ProgramRule;
 use std::alloc::Global;
+use work_rules::WorkRule;
 
 /// What a line says.
 #[derive(Drop)]
@@ -34,6 +37,8 @@ pub(crate) enum LineMeaning {
     Claim(Claim),
     /// What the program itself has to be.
     Rules(Vec<ProgramRule>),
+    /// Who does the work in each run.
+    Work(Vec<WorkRule>),
     /// That no stream ever loops alone.
     NeverBusy,
     /// How the case counts to which the file belongs.
@@ -59,6 +64,7 @@ impl LineMeaning {
             | LineMeaning::End(_)
             | LineMeaning::Claim(_)
             | LineMeaning::Rules(_)
+            | LineMeaning::Work(_)
             | LineMeaning::NeverBusy => false,
         }
     }
@@ -159,7 +165,38 @@ fn read_claim_named(
     if name == b"some".as_slice() {
         return Ok(LineMeaning::Claim(read_claim(alloc, names, image, Scope::Once, text)?));
     }
+    read_work_named(alloc, names, name, text)
+}
+
+/// What a line says that begins with this name, which is none of those of ends and claims.
+fn read_work_named(
+    alloc: Global,
+    names: KnownNames<'_, '_, '_>,
+    name: &[u8],
+    text: &[u8],
+) -> Result<LineMeaning, Unread>
+    ensures means { IfOk result (λ m. work_named (names_in names.entry) name.now (words_of text.now)
+        ≡ Ok (meaning_seen m)) }
+    ensures fault { IfErr result (λ u. (f : LineFault) → u ≡ unread.Fault f
+        → work_named (names_in names.entry) name.now (words_of text.now) ≡ Err f) }
+{
+    if name == b"each".as_slice() {
+        return Ok(LineMeaning::Work(read_each(alloc, names, text)?));
+    }
+    if name == b"at".as_slice() && is_least(text) {
+        return Ok(LineMeaning::Work(read_least(alloc, names, &read_operands(text))?));
+    }
     read_rules_named(alloc, name, text)
+}
+
+/// Whether a text begins with the word `least`.
+fn is_least(text: &[u8]) -> bool
+    ensures { result ≡ is_least (words_of text.now) }
+{
+    match next_word(text) {
+        Some((word, _)) => word == b"least".as_slice(),
+        None => false,
+    }
 }
 
 /// What follows `never`: `busy` alone, or a claim.
@@ -190,7 +227,7 @@ fn is_busy(operands: &Operands) -> bool
     }
 }
 
-/// What a line says that begins with this name, which is none of those of ends and claims.
+/// What a line says that begins with this name, which is none of those of ends, claims and work.
 fn read_rules_named(alloc: Global, name: &[u8], text: &[u8]) -> Result<LineMeaning, Unread>
     ensures means { IfOk result (λ m. rules_named name.now (words_of text.now) ≡ Ok (meaning_seen m)) }
     ensures fault { IfErr result (λ u. (f : LineFault) → u ≡ unread.Fault f

@@ -5,7 +5,7 @@ ghost use Rattle.expectation_files.specs.Judged.{IsJudged, are_rules_kept};
 ghost use Rattle.program_rules.specs.Keeping.{is_kept};
 ghost use Rattle.expectation_files.specs.Files.{nothing_said, said_on, joined, is_nothing};
 ghost use Rattle.expectation_files.specs.Seen.{requirements_seen, meaning_seen};
-ghost use Rattle.expectation_files.specs.Lines.{Rules};
+ghost use Rattle.expectation_files.specs.Lines.{Rules, Work};
 
 use crate::lines::LineMeaning;
 use crate::written_lines::{push_rule_lines, written};
@@ -14,6 +14,7 @@ use expectations::Expectation;
 use image_file::Image;
 use program_rules::{ProgramRule, is_kept};
 use std::alloc::{AllocError, Global};
+use work_rules::WorkRule;
 
 /// The words of the line that says that no stream ever loops alone.
 pub const NEVER_BUSY: &str = "never busy";
@@ -27,7 +28,8 @@ pub struct WrittenLine {
     pub words: String,
 }
 
-/// What is required of a program: of the ends of its runs, of the states on the way, and of its program alone.
+/// What is required of a program: of the ends of its runs, of the states on the way, of who does the work in a run, and of its
+/// program alone.
 #[derive(Drop)]
 pub struct Requirements {
     ends: Vec<Expectation>,
@@ -36,6 +38,8 @@ pub struct Requirements {
     claim_lines: Vec<WrittenLine>,
     rules: Vec<ProgramRule>,
     rule_lines: Vec<WrittenLine>,
+    work: Vec<WorkRule>,
+    work_lines: Vec<WrittenLine>,
     never_busy: Option<usize>,
 }
 
@@ -51,6 +55,8 @@ impl Requirements {
             claim_lines: Vec::new(alloc),
             rules: Vec::new(alloc),
             rule_lines: Vec::new(alloc),
+            work: Vec::new(alloc),
+            work_lines: Vec::new(alloc),
             never_busy: None,
         }
     }
@@ -62,6 +68,7 @@ impl Requirements {
         self.ends.is_empty()
             && self.claims.is_empty()
             && self.rules.is_empty()
+            && self.work.is_empty()
             && self.never_busy.is_none()
     }
 
@@ -107,6 +114,20 @@ impl Requirements {
         &self.rule_lines
     }
 
+    /// What streams have to do in each run, in the order of the lines, and of the streams of a line.
+    pub fn work(&self) -> &[WorkRule]
+        ensures { result.now ≡ self.now.work.items }
+    {
+        &self.work
+    }
+
+    /// The lines that say it, one each.
+    pub fn work_lines(&self) -> &[WrittenLine]
+        ensures { result.now ≡ self.now.work_lines.items }
+    {
+        &self.work_lines
+    }
+
     /// Whether something is required, and the program of an image keeps the rules.
     pub fn is_judged(&self, image: &Image) -> bool
         ensures { IsTrue result ↔ IsJudged image.now self.now }
@@ -144,6 +165,7 @@ impl Requirements {
                 Ok(self.claim_lines.push(written(alloc, number, line)?)?)
             }
             LineMeaning::Rules(rules) => self.add_rules(alloc, number, line, &rules),
+            LineMeaning::Work(rules) => self.add_work(alloc, number, line, &rules),
             LineMeaning::NeverBusy => {
                 self.never_busy = self.never_busy.or(Some(number));
                 Ok(())
@@ -165,6 +187,22 @@ impl Requirements {
     {
         self.rules.extend_from_slice(rules)?;
         push_rule_lines(alloc, &mut self.rule_lines, number, line, rules.len())
+    }
+
+    /// Adds what the line of this number says of who does the work.
+    #[tactic(auto, using(crate::proofs::Joined::joined_work))]
+    fn add_work(
+        &mut self,
+        alloc: Global,
+        number: usize,
+        line: &[u8],
+        rules: &[WorkRule],
+    ) -> Result<(), AllocError>
+        ensures { OnOk result (requirements_seen self.new
+            ≡ joined (requirements_seen self.old) (said_on number line.now (Work rules.now))) }
+    {
+        self.work.extend_from_slice(rules)?;
+        push_rule_lines(alloc, &mut self.work_lines, number, line, rules.len())
     }
 }
 

@@ -7,7 +7,7 @@ use std::alloc::{AllocError, Global};
 
 /// The words with which lines begin.
 const FIRST_WORDS: &str =
-    "a line begins with word, words, sum, register, finished, stopped, always, never, some, entries, at most, forbid, require, points or hidden";
+    "a line begins with word, words, sum, register, finished, stopped, always, never, some, each, at least, entries, at most, forbid, require, points or hidden";
 
 /// Which byte addresses some memory has a word at.
 const ADDRESSES: &str = "no memory has a word at this address: multiples of 8 below 2097152";
@@ -138,6 +138,10 @@ fn form_words(form: LineForm) -> &'static str {
         LineForm::Entries => "a line about entries is entries N",
         LineForm::MostWords => "a line about the size of the program is at most N words",
         LineForm::Operations => "after forbid or require come names of operations",
+        LineForm::Each => "a line about who writes a word is each of P.S .. writes word ADDRESS",
+        LineForm::Least => {
+            "a line about how many streams store is at least N streams store to words FIRST..LAST"
+        }
         LineForm::Points => "a line about points is points N",
         LineForm::Hidden => "nothing follows hidden",
     }

@@ -7,7 +7,7 @@ use Rattle.expectation_files.specs.Seen.{requirements_seen}
 use Rattle.expectation_files.specs.declared.requirements.Requirements.{Requirements}
 use Rattle.case_cells.specs.NamedWords.{name_lacking}
 use Rattle.judgements.specs.Cases.{program_by, names_by, said_by, seeds_of, SpeaksOfGivenIn}
-use Rattle.judgements.specs.Right.{IsRightAsAsked}
+use Rattle.judgements.specs.Right.{IsRightAsAsked, IsWorkDone}
 use Rattle.judgements.specs.Shown.{IsShownBy, IsCaseJudged, IsReadCase, IsUnjudged, IsNotGiven, kind_without_name}
 use Rattle.judgements.specs.declared.cases.Case.{Case}
 use Rattle.judgements.specs.declared.cases.AskedJudging.{AskedJudging}
@@ -22,6 +22,7 @@ record IsKnown (asked : AskedJudging) (text : List ℕ) (case : Case) (r : Requi
   given : j.kind ≡ verdict.Right → SpeaksOfGivenIn i text case case.cells r
   right : j.kind ≡ verdict.Right → IsRightAsAsked asked.explored (seeds_of asked) i r
   kept : j.kind ≡ verdict.Right → IsTrue (are_rules_kept i r.rules.items)
+  work : j.kind ≡ verdict.Right → IsWorkDone i r (seeds_of asked)
   shown : IsShownBy i r (seeds_of asked) j ⊎ IsNotGiven j
 
 -- what shows it is what shows what is known by a case
@@ -46,6 +47,7 @@ by_program asked image text case r j said known = record {
       kept = known.kept yes;
     };
     right = known.right yes;
+    work = known.work yes;
   };
   shown = shown_by asked image text case r j said known.shown;
 }
@@ -56,13 +58,14 @@ pub read_case : {E : Type 0} (asked : AskedJudging) (image : ImageValue) (text :
     → IfOk result (λ (j : CaseJudgement). j.kind ≡ verdict.Right → SpeaksOfGivenIn i text case case.cells r)
     → IfOk result (λ (j : CaseJudgement). j.kind ≡ verdict.Right → IsRightAsAsked asked.explored (seeds_of asked) i r)
     → IfOk result (λ (j : CaseJudgement). j.kind ≡ verdict.Right → IsTrue (are_rules_kept i r.rules.items))
+    → IfOk result (λ (j : CaseJudgement). j.kind ≡ verdict.Right → IsWorkDone i r (seeds_of asked))
     → IfOk result (λ (j : CaseJudgement). IsShownBy i r (seeds_of asked) j ⊎ IsNotGiven j)
     → IfOk result (λ (j : CaseJudgement). IsCaseJudged asked image text case j)
-read_case asked image text case i r (Err e) same said given right kept shown = tt
-read_case asked image text case i r (Ok j) same said given right kept shown =
+read_case asked image text case i r (Err e) same said given right kept work shown = tt
+read_case asked image text case i r (Ok j) same said given right kept work shown =
     by_program asked image text case r j (subst (λ i. said_by case i text ≡ Ok (requirements_seen r)) same said)
     (subst (λ i. IsKnown asked text case r j i) same
-    (record { given = given; right = right; kept = kept; shown = shown }))
+    (record { given = given; right = right; kept = kept; work = work; shown = shown }))
 
 no_right : (needed : Bool) → kind_without_name needed ≡ verdict.Right → ⊥
 no_right true e = cc

@@ -2,6 +2,8 @@
 use Rattle.std.specs.Prelude.{◌≡◌, ℕ, ◌&&◌, not, Bool, true, false, List, Some, is_some, slice_get}
 use Rattle.end_kinds.specs.declared.kinds.EndKind.{EndKind}
 use Rattle.end_kinds.specs.declared.kinds.EndKind.TheVariants as kind
+use Rattle.schedule_makers.specs.declared.made.MadeEnd.{MadeEnd}
+use Rattle.schedule_makers.specs.declared.made.MadeEnd.TheVariants as made_end
 use Rattle.seed_outcomes.specs.SpaceEndsTypes.SpaceEnd.{SpaceEnd}
 use Rattle.seed_outcomes.specs.SpaceEndsTypes.SpaceEndKind.{SpaceEndKind}
 use Rattle.seed_outcomes.specs.SpaceEndsTypes.SpaceEndKind.TheVariants as space_end
@@ -19,6 +21,12 @@ kind_of_run run_flaw.Deadlock = verdict.Deadlock
 kind_of_run (run_flaw.Missed expectation) = verdict.Wrong
 kind_of_run (run_flaw.Broken taken claim) = verdict.Wrong
 kind_of_run run_flaw.OutOfSteps = verdict.RanOutOfSteps
+
+-- what a submission is whose run ends so, and does not meet a line about who does the work
+abbrev pub kind_of_work : MadeEnd → VerdictKind
+kind_of_work made_end.NobodyRuns = verdict.Wrong
+kind_of_work made_end.Standstill = verdict.Wrong
+kind_of_work made_end.OutOfSteps = verdict.RanOutOfSteps
 
 -- what a submission is of which an end of all schedules shows a flaw
 abbrev pub kind_of_end : EndFlaw → VerdictKind

@@ -52,6 +52,7 @@ missed_for ends (reason.NoSchedule claim) = Some (line.Claim claim)
 missed_for ends (reason.NoRun claim) = Some (line.Claim claim)
 missed_for ends reason.NoRunCan = Some line.Busy
 missed_for ends (reason.Rule place) = Some (line.Rule place)
+missed_for ends (reason.Work w) = Some (line.Work w.rule)
 missed_for ends (reason.Absent number fault) = Some (line.Absent number fault)
 missed_for ends (reason.Lacking name) = None
 missed_for ends (reason.NotGiven number) = None

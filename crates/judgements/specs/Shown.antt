@@ -11,9 +11,11 @@ use Rattle.seed_outcomes.specs.SeedVerdicts.Seeds.{AreJudged}
 use Rattle.seed_outcomes.specs.SeedVerdicts.ShownBySeeds.{IsUnshownBySeeds}
 use Rattle.seed_outcomes.specs.SeedVerdictsTypes.Seeds.{Seeds}
 use Rattle.seed_outcomes.specs.SpaceEndsTypes.SpaceEnd.{SpaceEnd}
+use Rattle.seed_work.specs.SeedWork.{IsWorkJudged}
+use Rattle.seed_work.specs.declared.missed_work.MissedWork.{MissedWork}
 use Rattle.case_cells.specs.NamedWords.{name_lacking}
 use Rattle.judgements.specs.Cases.{program_by, said_by, seeds_of}
-use Rattle.judgements.specs.Flaws.{kind_of_run, kind_of_end, ShowsAt}
+use Rattle.judgements.specs.Flaws.{kind_of_run, kind_of_work, kind_of_end, ShowsAt}
 use Rattle.judgements.specs.Right.{IsRightCase}
 use Rattle.judgements.specs.declared.cases.Case.{Case}
 use Rattle.judgements.specs.declared.cases.AskedJudging.{AskedJudging}
@@ -49,6 +51,13 @@ pub record IsUnshownByRuns (image : ImageValue) (required : Requirements) (seeds
   pub unshown : IsUnshownBySeeds image required.claims.items seeds claim
   pub verdict : kind ≡ verdict.NotDecided
 
+-- The run of a seed is the first of all seeds that does not meet the lines about who does the work, and the verdict is by how
+-- that run ends.
+pub record IsShownByWork (image : ImageValue) (required : Requirements) (seeds : Seeds) (kind : VerdictKind)
+    (missed : MissedWork) : Type 0 where
+  pub first : IsWorkJudged image required.work.items seeds (Some missed)
+  pub verdict : kind ≡ kind_of_work missed.end
+
 -- it is a verdict by what was looked at alone
 abbrev pub IsLooked : VerdictKind → Type 0
 IsLooked kind = (kind ≡ verdict.Right) ⊎ (kind ≡ verdict.NotDecided)
@@ -62,6 +71,7 @@ IsShownFor image required seeds ends kind (reason.NoSchedule claim) = kind ≡ v
 IsShownFor image required seeds ends kind (reason.NoRun claim) = IsUnshownByRuns image required seeds kind claim
 IsShownFor image required seeds ends kind reason.NoRunCan = kind ≡ verdict.NotDecided
 IsShownFor image required seeds ends kind (reason.Rule rule) = IsShownByRule image required kind rule
+IsShownFor image required seeds ends kind (reason.Work missed) = IsShownByWork image required seeds kind missed
 IsShownFor image required seeds ends kind (reason.Absent number fault) = ⊥
 IsShownFor image required seeds ends kind (reason.Lacking name) = ⊥
 IsShownFor image required seeds ends kind (reason.NotGiven number) = ⊥

@@ -5,11 +5,12 @@ ghost use Rattle.std.specs.List.{position};
 ghost use Rattle.program_rules.specs.Keeping.{is_kept};
 ghost use Rattle.expectation_files.specs.Judged.{are_rules_kept};
 ghost use Rattle.judgements.specs.Cases.{seeds_of, SpeaksOfGivenIn};
-ghost use Rattle.judgements.specs.Right.{IsRightAsAsked};
+ghost use Rattle.judgements.specs.Right.{IsRightAsAsked, IsWorkDone};
 ghost use Rattle.judgements.specs.Shown.{IsCaseJudged, IsShownBy, IsNotGiven, kind_without_name};
 
 use crate::by_schedules::{JudgedProgram, judged_by_schedules};
 use crate::by_seeds::judged_by_seeds;
+use crate::by_work::with_work;
 use crate::case_judgements::{CaseJudgement, Reason};
 use crate::cases::{AskedJudging, Case, Submission, image_by, image_or};
 use crate::judge_faults::CaseFault;
@@ -84,6 +85,8 @@ fn judged_by_lines<X: Threads + Sync, C: Clock, E: Write>(
         → IsRightAsAsked asked.explored (seeds_of asked) judged.entry.image.now judged.entry.required.now) }
     ensures kept { IfOk result (λ j. j.kind ≡ VerdictKind.Right
         → IsTrue (are_rules_kept judged.entry.image.now judged.entry.required.now.rules.items)) }
+    ensures work { IfOk result (λ j. j.kind ≡ VerdictKind.Right
+        → IsWorkDone judged.entry.image.now judged.entry.required.now (seeds_of asked)) }
     ensures shown { IfOk result (λ j.
         IsShownBy judged.entry.image.now judged.entry.required.now (seeds_of asked) j ⊎ IsNotGiven j) }
 {
@@ -126,8 +129,8 @@ fn has_name(range: &[u8]) -> bool {
     false
 }
 
-/// What is known of a program of which this is required: by the first rule of programs that it breaks, else by every
-/// schedule, if that is asked, else by random ones.
+/// What is known of a program of which this is required: by the first rule of programs that it breaks, else by its schedules,
+/// and of those of seeds also by who does the work there.
 fn judged_program<X: Threads + Sync, C: Clock, E: Write>(
     rt: &X,
     alloc: Global,
@@ -139,12 +142,30 @@ fn judged_program<X: Threads + Sync, C: Clock, E: Write>(
         → IsRightAsAsked asked.explored (seeds_of asked) judged.entry.image.now judged.entry.required.now) }
     ensures kept { IfOk result (λ j. j.kind ≡ VerdictKind.Right
         → IsTrue (are_rules_kept judged.entry.image.now judged.entry.required.now.rules.items)) }
+    ensures work { IfOk result (λ j. j.kind ≡ VerdictKind.Right
+        → IsWorkDone judged.entry.image.now judged.entry.required.now (seeds_of asked)) }
     ensures shown { IfOk result (λ j. IsShownBy judged.entry.image.now judged.entry.required.now (seeds_of asked) j) }
 {
     if let Some(rule) = broken_rule(judged) {
         let reason = Reason::Rule(rule);
         return Ok(CaseJudgement::plain(alloc, VerdictKind::Wrong, Known::NOTHING, reason));
     }
+    let judgement = judged_as_asked(rt, alloc, asked, judged, console)?;
+    Ok(with_work(alloc, asked, judged, judgement)?)
+}
+
+/// What is known of a program by its ends and claims: by every schedule, if that is asked, else by random ones.
+fn judged_as_asked<X: Threads + Sync, C: Clock, E: Write>(
+    rt: &X,
+    alloc: Global,
+    asked: AskedJudging,
+    judged: JudgedProgram<'_>,
+    console: &mut Console<'_, C, E>,
+) -> Result<CaseJudgement, CaseFault>
+    ensures right { IfOk result (λ j. j.kind ≡ VerdictKind.Right
+        → IsRightAsAsked asked.explored (seeds_of asked) judged.entry.image.now judged.entry.required.now) }
+    ensures shown { IfOk result (λ j. IsShownBy judged.entry.image.now judged.entry.required.now (seeds_of asked) j) }
+{
     match asked.explored {
         Some(bounds) if asked.is_thorough => {
             Ok(judged_thoroughly(rt, alloc, asked, bounds, judged, console)?)

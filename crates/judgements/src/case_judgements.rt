@@ -12,6 +12,7 @@ use seed_outcomes::SeedOutcome;
 use seed_outcomes::ends_of_space::{SpaceEnd, SpaceEndKind};
 use seed_outcomes::seeds::RunFlaw;
 use seed_outcomes::states::JudgedEnd;
+use seed_work::MissedWork;
 use std::alloc::{AllocError, Global};
 
 /// The run of a seed that is not right.
@@ -48,6 +49,8 @@ pub enum Reason {
     NoRunCan,
     /// The rule of programs at this place, which the program breaks.
     Rule(usize),
+    /// That the run of a seed does not meet a line about who does the work.
+    Work(MissedWork),
     /// That a line names what the program lacks, so that it can't be judged.
     Absent {
         /// The line, counted from 1.
@@ -90,6 +93,8 @@ pub enum MissedLine {
     Busy,
     /// A rule of programs.
     Rule(usize),
+    /// What a stream, or some streams, have to do in a run.
+    Work(usize),
     /// The line of this number, from 1, which names what the program lacks.
     Absent {
         /// The number.
@@ -141,6 +146,7 @@ impl CaseJudgement {
     pub fn witness(&self, alloc: Global) -> Result<Witness, AllocError> {
         match &self.reason {
             Reason::Run(run) => Ok(Witness::Seed(run.seed)),
+            Reason::Work(missed) => Ok(Witness::Seed(missed.seed)),
             Reason::End(place) => match self.ends.get(*place) {
                 Some(end) => Ok(Witness::Schedule(Vec::from_slice(alloc, &end.schedule)?)),
                 None => Ok(Witness::None),
@@ -172,6 +178,7 @@ impl CaseJudgement {
             }
             Reason::NoRunCan => Some(MissedLine::Busy),
             Reason::Rule(place) => Some(MissedLine::Rule(*place)),
+            Reason::Work(missed) => Some(MissedLine::Work(missed.rule)),
             Reason::Absent { line, fault } => Some(MissedLine::Absent {
                 line: *line,
                 fault: *fault,

@@ -5,6 +5,7 @@
 mod by_case;
 mod by_schedules;
 mod by_seeds;
+mod by_work;
 mod case_judgements;
 mod cases;
 mod end_flaws;
@@ -25,5 +26,6 @@ pub use requirements::required_by;
 pub use seed_outcomes as outcomes;
 pub use seed_outcomes::seeds::RunFlaw;
 pub use seed_outcomes::states;
+pub use seed_work as work;
 pub use submissions::{SubmissionJudgement, judged_submission};
 pub use verdict_kinds::VerdictKind;

@@ -70,7 +70,8 @@ fn required_in_case(
 }
 
 /// The number, from 1, of the first line of a case that speaks of a word which the case's cells do not give, or which is
-/// another one in the submission: of those about the end, and then of the claims. None if the case has no cells.
+/// another one in the submission: of those about the end, then of the claims, and then of those about who does the work. None if
+/// the case has no cells.
 pub(crate) fn line_not_given(
     alloc: Global,
     case: &Case,
@@ -118,10 +119,16 @@ fn places_or(
     Ok(places)
 }
 
-/// The number of the line at a place among those about the end, and then the claims.
+/// The number of the line at a place among those about the end, then the claims, and then those about who does the work.
 fn line_number(required: &Requirements, place: usize) -> usize {
     let (ends, claims) = (required.end_lines(), required.claim_lines());
-    match ends.iter().chain(claims.iter()).nth(place) {
+    let work = required.work_lines();
+    match ends
+        .iter()
+        .chain(claims.iter())
+        .chain(work.iter())
+        .nth(place)
+    {
         Some(line) => line.number,
         None => 0,
     }

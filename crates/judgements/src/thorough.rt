@@ -56,7 +56,7 @@ pub(crate) fn judged_thoroughly<X: Threads + Sync, C: Clock, E: Write>(
 }
 
 /// Whether what seeds say leaves open what every schedule does.
-fn is_open(kind: VerdictKind) -> bool
+pub(crate) fn is_open(kind: VerdictKind) -> bool
     ensures { kind ≡ VerdictKind.Right → result ≡ true }
 {
     match kind {

@@ -2,7 +2,7 @@
 
 use crate::explored_objects::push_objects;
 use command_parts::CommandAnswer;
-use end_kinds::EndKind;
+use end_kinds::{EndKind, Status};
 use expectation_files::Requirements;
 use image_file::Image;
 use lab_texts::Notation;
@@ -10,8 +10,8 @@ use plain_text::{plural, push_plain};
 use schedule_turns::turns_of;
 use search_texts::searches::Explored;
 use search_texts::{
-    EndCells, EndColumns, ExpectedLines, LookedAt, end_line, push_expected, push_unkept,
-    push_unkept_objects,
+    EndCells, EndColumns, ExpectedLines, LookedAt, end_line, push_expected, push_undecided_work,
+    push_undecided_work_objects, push_unkept, push_unkept_objects,
 };
 use space_graphs::ends_in_words::{EndWords, words_of_ends};
 use space_graphs::ends_of_space::{SpaceEnd, SpaceEndKind};
@@ -33,11 +33,22 @@ pub(crate) fn answer_of(
     if is_json {
         push_objects(alloc, &mut output, image, ExpectedLines { required }, found)?;
         push_unkept_objects(alloc, &mut output, required, found.unkept())?;
+        push_undecided_work_objects(alloc, &mut output, required)?;
     } else {
         let words = words_of_ends(alloc, notation, required, image, &found.ends)?;
         push_lines(alloc, &mut output, required, found, &words)?;
     }
-    Ok(CommandAnswer::printed(alloc, output, found.status()))
+    let status = found.status().worse(work_status(required));
+    Ok(CommandAnswer::printed(alloc, output, status))
+}
+
+/// What it means for the exit status that a search does not decide who does the work.
+fn work_status(required: &Requirements) -> Status {
+    if required.work().is_empty() {
+        Status::Done
+    } else {
+        Status::OutOfSteps
+    }
 }
 
 /// Adds how much was found, what is not so of the program as a whole, and the lines of the ends.
@@ -50,6 +61,7 @@ fn push_lines(
 ) -> Result<(), AllocError> {
     push_head_line(out, found)?;
     push_unkept(out, required, found.unkept(), looked_at(found))?;
+    push_undecided_work(alloc, out, required)?;
     let columns = columns_of(alloc, found)?;
     if !found.ends.is_empty() {
         columns.push_names(out)?;

@@ -12,6 +12,8 @@ use lab_texts::{Notation, ProgramNames};
 use processor::Step;
 use program_pages::ends_in_words::{WordRange, first_finding, going_text, state_text, text_of_end};
 use program_pages::ends_of_space::SpaceEnd;
+use program_pages::search_words::work_words;
+use result_lines::judges::work::MissedWork;
 use result_lines::judges::{Case, CaseJudgement, MissedLine, Reason, RunFlaw, ShownRun};
 use result_lines::reports::ReportLine;
 use source_places::SourcePlaces;
@@ -78,6 +80,7 @@ impl CaseNotation<'_, '_> {
             Reason::NoRun { .. } => text.words.push_str("no run has such a state"),
             Reason::NoRunCan => text.words.push_str("a run cannot show it; use --explore"),
             Reason::Rule(_) => self.add_rule(text),
+            Reason::Work(missed) => self.add_work(alloc, *missed, text),
         }
     }
 
@@ -128,6 +131,19 @@ impl CaseNotation<'_, '_> {
         )
     }
 
+    /// Writes who does not do the work in the run of a seed; the findings of that run say nothing of it.
+    fn add_work(
+        self,
+        alloc: Global,
+        missed: MissedWork,
+        text: &mut CaseText,
+    ) -> Result<(), AllocError> {
+        if let Some(rule) = self.lines.required.work().get(missed.rule) {
+            text.words = work_words(alloc, *rule, missed.end)?;
+        }
+        Ok(())
+    }
+
     /// Writes which rule of programs is broken.
     fn add_rule(self, text: &mut CaseText) -> Result<(), AllocError> {
         let path = self.lines.case.path.as_str();
@@ -160,6 +176,11 @@ fn missed_words(
     let place = match missed {
         Some(MissedLine::End(place)) => place,
         Some(MissedLine::Claim(place)) => required.ends().len().saturating_add(place),
+        Some(MissedLine::Work(place)) => required
+            .ends()
+            .len()
+            .saturating_add(required.claims().len())
+            .saturating_add(place),
         Some(MissedLine::Busy | MissedLine::Rule(_) | MissedLine::Absent { .. }) | None => {
             return Ok(Vec::new(alloc));
         }

@@ -27,6 +27,7 @@ impl CaseLines<'_> {
             Some(MissedLine::End(place)) => copy_of(alloc, required.end_lines().get(place)),
             Some(MissedLine::Claim(place)) => copy_of(alloc, required.claim_lines().get(place)),
             Some(MissedLine::Rule(place)) => copy_of(alloc, required.rule_lines().get(place)),
+            Some(MissedLine::Work(place)) => copy_of(alloc, required.work_lines().get(place)),
             Some(MissedLine::Busy) => busy_line(alloc, required),
             Some(MissedLine::Absent { line, .. }) => {
                 Ok(Some(absent_line(alloc, self.case, line)?))

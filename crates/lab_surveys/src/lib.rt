@@ -2,6 +2,7 @@
 #![tactic(auto)]
 
 mod coverage;
+mod missed_work;
 mod outcome_words;
 mod survey_objects;
 mod surveying;

@@ -1,6 +1,7 @@
 //! The command `survey`.
 
 use crate::coverage::push_every_schedule;
+use crate::missed_work::push_missed_work;
 use crate::outcome_words::{OutcomeWords, words_of_outcomes};
 use crate::survey_objects::{SurveyInput, broken_words, push_outcome_objects};
 use command_parts::{CommandAnswer, Inputs, LabFault, read_program, style_of};
@@ -89,7 +90,8 @@ fn survey_of<X: Threads + Sync, C: Clock, E: Write>(
             unkept,
             LookedAt::SomeRuns,
         )?;
-        let status = status.worse(unkept.status(false));
+        let work = push_missed_work(alloc, &mut output, is_json, surveyed, seeds)?;
+        let status = status.worse(unkept.status(false)).worse(work);
         return Ok(CommandAnswer::printed(alloc, output, status));
     };
     let found = every_end(alloc, surveyed, bounds, console)?;
@@ -102,8 +104,10 @@ fn survey_of<X: Threads + Sync, C: Clock, E: Write>(
         unkept,
         LookedAt::EverySchedule,
     )?;
+    let work = push_missed_work(alloc, &mut output, is_json, surveyed, seeds)?;
     push_every_schedule(alloc, &mut output, is_json, surveyed, &found, &outcomes)?;
-    Ok(CommandAnswer::printed(alloc, output, status.worse(found.status())))
+    let status = status.worse(found.status()).worse(work);
+    Ok(CommandAnswer::printed(alloc, output, status))
 }
 
 /// What of the program as a whole is not so, by the runs of seeds.

@@ -1,6 +1,7 @@
 //! What is required of a program, as it is written.
 
 use expectation_files::{NEVER_BUSY, Requirements, WrittenLine};
+use search_texts::distinct_lines;
 use std::alloc::{AllocError, Global};
 
 /// What is expected of ends, and what is claimed, as it is written: first the lines on ends, in the order of the expectations.
@@ -15,7 +16,21 @@ pub(crate) fn expected_texts(
         texts.push(String::from_str(alloc, NEVER_BUSY)?)?;
     }
     push_words(alloc, &mut texts, required.rule_lines())?;
+    push_unjudged(alloc, &mut texts, required.work_lines())?;
     Ok(texts)
+}
+
+/// Adds the words of lines about who does the work, each line once: the page does not judge them.
+fn push_unjudged(
+    alloc: Global,
+    texts: &mut Vec<String>,
+    lines: &[WrittenLine],
+) -> Result<(), AllocError> {
+    for line in distinct_lines(alloc, lines)? {
+        let words = line.words.as_str();
+        texts.push(format!(in alloc; "{words} (not judged on this page)")?)?;
+    }
+    Ok(())
 }
 
 /// Adds the words of lines.

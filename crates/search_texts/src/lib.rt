@@ -9,6 +9,7 @@ mod expected_lines;
 mod search_faults;
 mod unkept;
 mod widths;
+mod work_lines;
 
 pub use bounds::{bound_value, put_bound};
 pub use command_parts as parts;
@@ -19,3 +20,6 @@ pub use lab_ends as ends_in_words;
 pub use program_searches as searches;
 pub use search_faults::search_fault;
 pub use unkept::{LookedAt, push_unkept, push_unkept_objects};
+pub use work_lines::{
+    distinct_lines, push_undecided_work, push_undecided_work_objects, work_words,
+};

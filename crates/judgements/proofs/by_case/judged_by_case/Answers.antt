@@ -20,4 +20,4 @@ returns-in-Ok g c =
     read_case c.args.asked own c.args.submission.text.now c.args.case.now c.image_or-image.result.now c.in-Ok.required
     c.judged_by_lines.result (c.image_or-image.ensures ∙ ap (λ o. unwrap_or o own) c.in_ok-given.ensures)
     c.in-Ok.ensures.means c.judged_by_lines.ensures.given c.judged_by_lines.ensures.right c.judged_by_lines.ensures.kept
-    c.judged_by_lines.ensures.shown
+    c.judged_by_lines.ensures.work c.judged_by_lines.ensures.shown

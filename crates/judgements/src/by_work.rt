@@ -1,0 +1,99 @@
+//! What the runs of seeds say of who does the work in a program.
+
+ghost use Rattle.std.specs.Prelude.{◌≡◌, ◌<◌, length, IfOk};
+ghost use Rattle.seed_work.specs.SeedWork.{IsWorkJudged};
+ghost use Rattle.judgements.specs.Cases.{seeds_of};
+ghost use Rattle.judgements.specs.Flaws.{kind_of_work};
+ghost use Rattle.judgements.specs.Right.{IsWorkDone};
+ghost use Rattle.judgements.specs.Shown.{IsShownBy};
+
+use crate::by_schedules::JudgedProgram;
+use crate::case_judgements::{CaseJudgement, Reason};
+use crate::cases::AskedJudging;
+use crate::thorough::is_open;
+use crate::verdict_kinds::VerdictKind;
+use image_file::Image;
+use image_machines::by_room;
+use machine::LoadFault;
+use schedule_makers::MadeEnd;
+use seed_outcomes::seeds::Seeds;
+use seed_work::rules::WorkRule;
+use seed_work::{MissedWork, first_missed_by_seeds};
+use std::alloc::{AllocError, Global};
+
+/// What is known of a program of which this is known by its ends and claims. If that says that it is right, or leaves it
+/// open, the run of each seed has to meet the lines about who does the work as well: the first run that does not decides.
+pub(crate) fn with_work(
+    alloc: Global,
+    asked: AskedJudging,
+    judged: JudgedProgram<'_>,
+    judgement: CaseJudgement,
+) -> Result<CaseJudgement, AllocError>
+    ensures right { IfOk result (λ j. j.kind ≡ VerdictKind.Right → judgement.kind ≡ VerdictKind.Right) }
+    ensures work { IfOk result (λ j. j.kind ≡ VerdictKind.Right
+        → IsWorkDone judged.entry.image.now judged.entry.required.now (seeds_of asked)) }
+    ensures shown { IfOk result (λ j.
+        IsShownBy judged.entry.image.now judged.entry.required.now (seeds_of asked) judgement
+        → IsShownBy judged.entry.image.now judged.entry.required.now (seeds_of asked) j) }
+{
+    if judged.required.work().is_empty() || !is_open(judgement.kind) {
+        return Ok(judgement);
+    }
+    match missed_work(alloc, judged.image, judged.required.work(), asked.sampled())? {
+        Some(missed) => Ok(judged_by_work(judgement, missed)),
+        None => Ok(with_seeds(judgement, asked.seeds)),
+    }
+}
+
+/// Of seeds the first whose run does not meet all of these lines.
+fn missed_work(
+    alloc: Global,
+    image: &Image,
+    rules: &[WorkRule],
+    seeds: Seeds,
+) -> Result<Option<MissedWork>, AllocError>
+    ensures { IfOk result (λ found. IsWorkJudged image.now rules.now seeds found) }
+{
+    let found = by_room!(image, first_missed_by_seeds(alloc, image, rules, seeds));
+    match found {
+        Ok(found) => Ok(found),
+        Err(LoadFault::NoMemory | LoadFault::Streams) => Err(AllocError),
+    }
+}
+
+/// The same judgement, after so many seeds were tried.
+fn with_seeds(judgement: CaseJudgement, seeds: usize) -> CaseJudgement
+    ensures kind { result.kind ≡ judgement.kind }
+    ensures reason { result.reason ≡ judgement.reason }
+    ensures ends { result.ends ≡ judgement.ends }
+{
+    let mut judgement = judgement;
+    judgement.known.seeds = Some(seeds);
+    judgement
+}
+
+/// What is known of a program of which the run of a seed does not meet a line about who does the work.
+fn judged_by_work(judgement: CaseJudgement, missed: MissedWork) -> CaseJudgement
+    ensures kind { result.kind ≡ kind_of_work missed.end }
+    ensures reason { result.reason ≡ Reason.Work missed }
+{
+    // (the seeds begin with 0)
+    let tried = (missed.seed as usize).saturating_add(1);
+    let kind = kind_of(missed.end);
+    let mut judgement = judgement;
+    judgement.kind = kind;
+    judgement.known.seeds = Some(tried);
+    judgement.reason = Reason::Work(missed);
+    judgement.status = judgement.status.worse(kind.status());
+    judgement
+}
+
+/// What a submission is whose run ends so, and does not meet a line about who does the work: a longer run might meet it.
+fn kind_of(end: MadeEnd) -> VerdictKind
+    ensures { result ≡ kind_of_work end }
+{
+    match end {
+        MadeEnd::NobodyRuns | MadeEnd::Standstill => VerdictKind::Wrong,
+        MadeEnd::OutOfSteps => VerdictKind::RanOutOfSteps,
+    }
+}

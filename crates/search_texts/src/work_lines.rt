@@ -1,0 +1,70 @@
+//! Lines about who does the work in a run, in words.
+
+use command_parts::push_object;
+use expectation_files::{Requirements, WrittenLine};
+use lab_json::{Object, line_value};
+use schedule_makers::MadeEnd;
+use std::alloc::{AllocError, Global};
+use work_rules::WorkRule;
+
+/// Lines of a file, each once: what several streams have to do may stand on one.
+pub fn distinct_lines<'a>(
+    alloc: Global,
+    lines: &'a [WrittenLine],
+) -> Result<Vec<&'a WrittenLine>, AllocError> {
+    let mut found = Vec::new(alloc);
+    let mut last = 0;
+    for line in lines {
+        if line.number != last {
+            found.push(line)?;
+            last = line.number;
+        }
+    }
+    Ok(found)
+}
+
+/// Adds the lines about who does the work, which a search does not decide.
+pub fn push_undecided_work(
+    alloc: Global,
+    out: &mut String,
+    required: &Requirements,
+) -> Result<(), AllocError> {
+    for line in distinct_lines(alloc, required.work_lines())? {
+        let number = line.number;
+        let words = line.words.as_str();
+        write!(
+            out,
+            "not decided: {words} (line {number}): a search does not tell who did what; survey and grade look at runs\n"
+        )?;
+    }
+    Ok(())
+}
+
+/// Adds the objects of the same.
+pub fn push_undecided_work_objects(
+    alloc: Global,
+    out: &mut String,
+    required: &Requirements,
+) -> Result<(), AllocError> {
+    for line in distinct_lines(alloc, required.work_lines())? {
+        let mut object = Object::of_kind(alloc, "undecided");
+        object.put("claim", line_value(alloc, line.number, &line.words));
+        push_object(alloc, out, &object.whole()?)?;
+    }
+    Ok(())
+}
+
+/// Who does not do what a line asks for, in a run that ends so.
+pub fn work_words(alloc: Global, rule: WorkRule, end: MadeEnd) -> Result<String, AllocError> {
+    let so_far = match end {
+        MadeEnd::NobodyRuns | MadeEnd::Standstill => "",
+        MadeEnd::OutOfSteps => " in so many steps",
+    };
+    match rule {
+        WorkRule::Writes { stream, address } => {
+            let (p, s) = (stream.p, stream.s);
+            format!(in alloc; "{p}.{s} does not store to [{address}]{so_far}")
+        }
+        WorkRule::AtLeast { count, .. } => { format!(in alloc; "fewer than {count} do{so_far}") }
+    }
+}

@@ -1,0 +1,2 @@
+-- What the runs of seeds show of who does the work.
+pub mod SeedWork
