@@ -2,8 +2,10 @@
 
 ghost use Rattle.std.specs.Prelude.{◌≡◌, ℕ, List, [], ◌∷◌, Ok, Err, map, IfOk, IfErr};
 ghost use Rattle.expectation_files.specs.Words.{words_of};
-ghost use Rattle.expectation_files.specs.Values.{stream_named};
-ghost use Rattle.expectation_files.specs.WorkLines.{each_said, each_writes, writers_said, writer_of, least_said, least_behind};
+ghost use Rattle.expectation_files.specs.Values.{stream_named, count_named};
+ghost use Rattle.expectation_files.specs.Addresses.{range_said};
+ghost use Rattle.expectation_files.specs.WorkLines.{each_said, each_writes, writers_said, writer_of, least_said};
+ghost use Rattle.expectation_files.specs.WorkLines.{least_behind, least_of};
 ghost use Rattle.expectation_files.specs.OperandsSeen.{AreOperands};
 ghost use Rattle.expectation_files.specs.Seen.{names_in};
 ghost use Rattle.expectation_files.specs.declared.faults.Unread.TheVariants as unread;
@@ -99,15 +101,19 @@ fn each_writes(
     if streams.is_empty() {
         return Err(Unread::Fault(LineFault::at(FIRST_STREAM, EACH)));
     }
-    let Operands::Two(word, address) = *operands else {
-        return Err(Unread::Fault(LineFault::at(0, EACH)));
-    };
-    if word != b"word".as_slice() {
-        return Err(Unread::Fault(LineFault::at(3 + streams.len(), EACH)));
-    }
-    match address_said(names, address) {
-        Ok(address) => Ok(writes_of(alloc, streams, address)?),
-        Err(kind) => Err(Unread::Fault(LineFault::at(4 + streams.len(), kind))),
+    match *operands {
+        Operands::Two(word, address) => {
+            if word != b"word".as_slice() {
+                return Err(Unread::Fault(LineFault::at(3 + streams.len(), EACH)));
+            }
+            match address_said(names, address) {
+                Ok(address) => Ok(writes_of(alloc, streams, address)?),
+                Err(kind) => Err(Unread::Fault(LineFault::at(4 + streams.len(), kind))),
+            }
+        }
+        Operands::Zero | Operands::One(_) | Operands::Three(..) | Operands::More(..) => {
+            Err(Unread::Fault(LineFault::at(0, EACH)))
+        }
     }
 }
 
@@ -126,7 +132,6 @@ fn writes_of(alloc: Global, streams: &[Step], address: u64) -> Result<Vec<WorkRu
 }
 
 /// `least N streams store to words FIRST..LAST`: so many streams at least store to words of a range.
-#[tactic(auto, unfolding(crate::specs::WorkLines::least_said))]
 pub(crate) fn read_least(
     alloc: Global,
     names: KnownNames<'_, '_, '_>,
@@ -138,19 +143,37 @@ pub(crate) fn read_least(
         → IfErr result (λ u. (f : LineFault) → u ≡ unread.Fault f
         → least_said (names_in names.entry) os ≡ Err f) }
 {
-    let Operands::More(_, count, streams, store, rest) = *operands else {
-        return Err(Unread::Fault(LineFault::at(0, LEAST)));
-    };
-    if streams != b"streams".as_slice() {
-        return Err(Unread::Fault(LineFault::at(3, LEAST)));
-    }
-    if store != b"store".as_slice() {
-        return Err(Unread::Fault(LineFault::at(4, LEAST)));
-    }
-    let rule = read_storing(names, count, &read_operands(rest))?;
+    let rule = read_least_rule(names, operands)?;
     let mut rules = Vec::new(alloc);
     rules.push(rule)?;
     Ok(rules)
+}
+
+/// The rule of the same operands.
+#[tactic(auto, unfolding(crate::specs::WorkLines::least_said))]
+fn read_least_rule(
+    names: KnownNames<'_, '_, '_>,
+    operands: &Operands,
+) -> Result<WorkRule, LineFault>
+    ensures means { (os : List (List ℕ)) → AreOperands operands.now os
+        → IfOk result (λ r. least_said (names_in names.entry) os ≡ Ok (r ∷ [])) }
+    ensures fault { (os : List (List ℕ)) → AreOperands operands.now os
+        → IfErr result (λ f. least_said (names_in names.entry) os ≡ Err f) }
+{
+    match *operands {
+        Operands::More(_, count, streams, store, rest) => {
+            if streams != b"streams".as_slice() {
+                return Err(LineFault::at(3, LEAST));
+            }
+            if store != b"store".as_slice() {
+                return Err(LineFault::at(4, LEAST));
+            }
+            read_storing(names, count, &read_operands(rest))
+        }
+        Operands::Zero | Operands::One(_) | Operands::Two(..) | Operands::Three(..) => {
+            Err(LineFault::at(0, LEAST))
+        }
+    }
 }
 
 /// So many streams at least store to the words that the operands say, `to words FIRST..LAST`.
@@ -164,15 +187,33 @@ fn read_storing(
     ensures fault { (os : List (List ℕ)) → AreOperands operands.now os
         → IfErr result (λ f. least_behind (names_in names.entry) count.now os ≡ Err f) }
 {
-    let Operands::Three(to, words, range) = *operands else {
-        return Err(LineFault::at(0, LEAST));
-    };
-    if to != b"to".as_slice() {
-        return Err(LineFault::at(5, LEAST));
+    match *operands {
+        Operands::Three(to, words, range) => {
+            if to != b"to".as_slice() {
+                return Err(LineFault::at(5, LEAST));
+            }
+            if words != b"words".as_slice() {
+                return Err(LineFault::at(6, LEAST));
+            }
+            storing_rule(names, count, range)
+        }
+        Operands::Zero | Operands::One(_) | Operands::Two(..) | Operands::More(..) => {
+            Err(LineFault::at(0, LEAST))
+        }
     }
-    if words != b"words".as_slice() {
-        return Err(LineFault::at(6, LEAST));
-    }
+}
+
+/// So many streams at least store to the words of this range.
+fn storing_rule(
+    names: KnownNames<'_, '_, '_>,
+    count: &[u8],
+    range: &[u8],
+) -> Result<WorkRule, LineFault>
+    ensures means { IfOk result (λ r. least_of (count_named count.now) (range_said (names_in names.entry) range.now)
+        ≡ Ok (r ∷ [])) }
+    ensures fault { IfErr result (λ f. least_of (count_named count.now) (range_said (names_in names.entry) range.now)
+        ≡ Err f) }
+{
     let count = count_named(count).ok_or(LineFault::at(2, LineFaultKind::Count))?;
     match range_said(names, range) {
         Ok(range) => Ok(WorkRule::AtLeast {

@@ -36,7 +36,10 @@ pub(crate) fn with_work(
         IsShownBy judged.entry.image.now judged.entry.required.now (seeds_of asked) judgement
         → IsShownBy judged.entry.image.now judged.entry.required.now (seeds_of asked) j) }
 {
-    if judged.required.work().is_empty() || !is_open(judgement.kind) {
+    if judged.required.work().is_empty() {
+        return Ok(judgement);
+    }
+    if !is_open(judgement.kind) {
         return Ok(judgement);
     }
     match missed_work(alloc, judged.image, judged.required.work(), asked.sampled())? {
@@ -75,6 +78,7 @@ fn with_seeds(judgement: CaseJudgement, seeds: usize) -> CaseJudgement
 /// What is known of a program of which the run of a seed does not meet a line about who does the work.
 fn judged_by_work(judgement: CaseJudgement, missed: MissedWork) -> CaseJudgement
     ensures kind { result.kind ≡ kind_of_work missed.end }
+    ensures wrong { ¬ (result.kind ≡ VerdictKind.Right) }
     ensures reason { result.reason ≡ Reason.Work missed }
 {
     // (the seeds begin with 0)
@@ -90,7 +94,8 @@ fn judged_by_work(judgement: CaseJudgement, missed: MissedWork) -> CaseJudgement
 
 /// What a submission is whose run ends so, and does not meet a line about who does the work: a longer run might meet it.
 fn kind_of(end: MadeEnd) -> VerdictKind
-    ensures { result ≡ kind_of_work end }
+    ensures kind { result ≡ kind_of_work end }
+    ensures wrong { ¬ (result ≡ VerdictKind.Right) }
 {
     match end {
         MadeEnd::NobodyRuns | MadeEnd::Standstill => VerdictKind::Wrong,

@@ -61,7 +61,7 @@ fn push_lines(
 ) -> Result<(), AllocError> {
     push_head_line(out, found)?;
     push_unkept(out, required, found.unkept(), looked_at(found))?;
-    push_undecided_work(alloc, out, required)?;
+    push_undecided_work(out, required)?;
     let columns = columns_of(alloc, found)?;
     if !found.ends.is_empty() {
         columns.push_names(out)?;

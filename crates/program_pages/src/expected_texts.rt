@@ -1,7 +1,7 @@
 //! What is required of a program, as it is written.
 
 use expectation_files::{NEVER_BUSY, Requirements, WrittenLine};
-use search_texts::distinct_lines;
+use search_texts::is_another_line;
 use std::alloc::{AllocError, Global};
 
 /// What is expected of ends, and what is claimed, as it is written: first the lines on ends, in the order of the expectations.
@@ -26,7 +26,10 @@ fn push_unjudged(
     texts: &mut Vec<String>,
     lines: &[WrittenLine],
 ) -> Result<(), AllocError> {
-    for line in distinct_lines(alloc, lines)? {
+    for (place, line) in lines.iter().enumerate() {
+        if !is_another_line(lines, place) {
+            continue;
+        }
         let words = line.words.as_str();
         texts.push(format!(in alloc; "{words} (not judged on this page)")?)?;
     }

@@ -21,5 +21,5 @@ pub use program_searches as searches;
 pub use search_faults::search_fault;
 pub use unkept::{LookedAt, push_unkept, push_unkept_objects};
 pub use work_lines::{
-    distinct_lines, push_undecided_work, push_undecided_work_objects, work_words,
+    is_another_line, push_undecided_work, push_undecided_work_objects, work_words,
 };

@@ -7,29 +7,22 @@ use schedule_makers::MadeEnd;
 use std::alloc::{AllocError, Global};
 use work_rules::WorkRule;
 
-/// Lines of a file, each once: what several streams have to do may stand on one.
-pub fn distinct_lines<'a>(
-    alloc: Global,
-    lines: &'a [WrittenLine],
-) -> Result<Vec<&'a WrittenLine>, AllocError> {
-    let mut found = Vec::new(alloc);
-    let mut last = 0;
-    for line in lines {
-        if line.number != last {
-            found.push(line)?;
-            last = line.number;
-        }
+/// Whether a line at a place is another one than that before it: what several streams have to do may stand on one.
+pub fn is_another_line(lines: &[WrittenLine], place: usize) -> bool {
+    let before = place.checked_sub(1).and_then(|before| lines.get(before));
+    match (before, lines.get(place)) {
+        (Some(before), Some(line)) => before.number != line.number,
+        _ => true,
     }
-    Ok(found)
 }
 
 /// Adds the lines about who does the work, which a search does not decide.
-pub fn push_undecided_work(
-    alloc: Global,
-    out: &mut String,
-    required: &Requirements,
-) -> Result<(), AllocError> {
-    for line in distinct_lines(alloc, required.work_lines())? {
+pub fn push_undecided_work(out: &mut String, required: &Requirements) -> Result<(), AllocError> {
+    let lines = required.work_lines();
+    for (place, line) in lines.iter().enumerate() {
+        if !is_another_line(lines, place) {
+            continue;
+        }
         let number = line.number;
         let words = line.words.as_str();
         write!(
@@ -46,7 +39,11 @@ pub fn push_undecided_work_objects(
     out: &mut String,
     required: &Requirements,
 ) -> Result<(), AllocError> {
-    for line in distinct_lines(alloc, required.work_lines())? {
+    let lines = required.work_lines();
+    for (place, line) in lines.iter().enumerate() {
+        if !is_another_line(lines, place) {
+            continue;
+        }
         let mut object = Object::of_kind(alloc, "undecided");
         object.put("claim", line_value(alloc, line.number, &line.words));
         push_object(alloc, out, &object.whole()?)?;
