@@ -1,2 +1,3 @@
 mod Knowing
+mod Listed
 mod Short

@@ -16,6 +16,8 @@ use Rattle.space_ends.specs.BrokenClaims.{value_of, HasBrokenEnds}
 use Rattle.space_ends.specs.EndsOfSpace.{ends_in, AreEndsOf}
 use Rattle.space_ends.specs.Spinning.{spinning_in, AreSpinning}
 use Rattle.space_ends.specs.Shown.{AreShownSo}
+use Rattle.space_ends.specs.FirstBroken.{AreBrokenSo}
+use Rattle.program_searches.specs.Loops.{ListsLoops}
 use Rattle.program_searches.specs.declared.bounds.SearchBound.{SearchBound}
 use Rattle.program_searches.specs.declared.bounds.SearchBound.TheVariants as bound
 use Rattle.program_searches.specs.declared.explored.Explored.{Explored}
@@ -95,6 +97,10 @@ pub record IsExplored (i : ImageValue) (asked : ProgramSearch) (e : Explored) : 
   pub listed : AreShownSo e.space asked.required.now.ends.items e.ends.items
   -- The last of its ends are those of the claims that are broken, with the worlds that break them.
   pub broken : HasBrokenEnds e.space asked.required.now.claims.items (map value_of e.ends.items)
+  -- Each end names the first claim that is broken on the way of its schedule, or none if all hold there.
+  pub first_broken : AreBrokenSo e.space asked.required.now.claims.items e.ends.items
+  -- If no stream is to loop alone, the first one that does is listed.
+  pub loops : ListsLoops asked e
   -- The rule that is reported is the first one that the program breaks.
   pub rule : e.broken_rule ≡ position (λ r. not (is_kept i r)) asked.required.now.rules.items
   -- The claim that is reported as unshown is shown by no world of the space, and each earlier one is shown.

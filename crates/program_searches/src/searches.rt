@@ -29,11 +29,11 @@
 //! contract does not follow, so this is tested. The watcher was made by each caller before; it is made here, so
 //! that `SearchFault::Clock` is promised to come only if the time is bounded.
 
-ghost use Rattle.std.specs.Prelude.{◌≡◌, ◌≤◌, ◌⊎◌, ◌↔◌, is_some, min, IsTrue, IsSome, IsNone, IfSome, IfOk, IfErr, None};
+ghost use Rattle.std.specs.Prelude.{◌≡◌, ◌≤◌, ◌⊎◌, ◌↔◌, is_some, min, IsTrue, IsFalse, IsSome, IsNone, IfSome, MatchOption, IfOk, IfErr, None};
 ghost use Rattle.space_ends.specs.ScheduleSpace.Spaces.{IsComplete, HasAllEdges};
 ghost use Rattle.space_ends.specs.ScheduleSpace.Followed.{AllFollowed};
 ghost use Rattle.space_ends.specs.BusyStreams.Busy.{IsNeverBusy};
-ghost use Rattle.space_ends.specs.BusyStreams.BusySpaces.{HasAllWorlds};
+ghost use Rattle.space_ends.specs.BusyStreams.BusySpaces.{HasAllWorlds, HasNoneBusy, IsFirstBusy};
 ghost use Rattle.space_ends.specs.ScheduleVerdicts.KeptClaims.{AreKeptOnTheWay};
 ghost use Rattle.expectation_files.specs.Judged.{IsJudged};
 ghost use Rattle.space_ends.specs.ScheduleVerdicts.NamedRegisters.{AreNamed};
@@ -244,7 +244,10 @@ fn busy_in<const S: usize>(
 ) -> Result<Option<Busy>, AllocError>
     ensures asked { IfOk result (λ found. IsTrue is_complete → IsSome required.now.never_busy
         → HasAllWorlds space.now → (found ≡ None) ↔ IsNeverBusy space.now.image space.now.begin) }
+    ensures first { IfOk result (λ found. IsTrue is_complete → IsSome required.now.never_busy
+        → HasAllWorlds space.now → MatchOption found (HasNoneBusy space.now) (λ b. IsFirstBusy space.now b)) }
     ensures unasked { IfOk result (λ found. IsNone required.now.never_busy → found ≡ None) }
+    ensures unknown { IfOk result (λ found. IsFalse is_complete → found ≡ None) }
 {
     if !is_complete || required.never_busy().is_none() {
         return Ok(None);

@@ -7,9 +7,12 @@ use Rattle.program_rules.specs.Keeping.{is_kept}
 use Rattle.space_ends.specs.ScheduleVerdicts.RightSpaces.{IsRightOnEachWay}
 use Rattle.space_ends.specs.ScheduleVerdicts.ShownClaims.{IsRightThroughout}
 use Rattle.space_ends.specs.BrokenClaims.{value_of, HasBrokenEnds}
+use Rattle.space_ends.specs.FirstBroken.{AreBrokenSo}
+use Rattle.space_ends.specs.Loops.{busy_in, loop_of}
 use Rattle.space_ends.specs.Shown.{AreShownSo}
 use Rattle.space_ends.specs.EndsOfSpace.{ends_in, AreEndsOf}
 use Rattle.program_searches.proofs.Knowing.{known, taken, tells, all_ends, all_if_never_busy, none_if, if_none, none_found}
+use Rattle.program_searches.proofs.Listed.{one_listed, none_listed, either_way, if_not_found, if_none_listed}
 use Rattle.program_searches.proofs.searches.explore_on.Goals as goal
 
 pub returns : goal.returns
@@ -28,6 +31,8 @@ returns g c =
     let found = c.in_ok-is_right.ensures in
     let judged = c.judges-is_judged.ensures in
     let busy = c.in_ok-busy.ensures in
+    let loops = busy_in c.in_ok-ends.ends.items in
+    let listed = c.in_ok-ends.ensures.busy in
     record {
       image = image;
       begin = begin;
@@ -46,6 +51,27 @@ returns g c =
       broken =
           subst (λ (cs : List Claim). HasBrokenEnds v cs (map value_of c.in_ok-ends.ends.items)) c.claims.ensures
           c.in_ok-ends.ensures.broken;
+      first_broken =
+          subst (λ (cs : List Claim). AreBrokenSo v cs c.in_ok-ends.ends.items) c.claims.ensures
+          c.in_ok-ends.ensures.first_broken;
+      loops = record {
+        first = λ some on.
+            either_way c.in_ok-busy.busy listed (busy.first on some (s.worlds (none on) (all_if_never_busy asked some)))
+            (λ b there first. one_listed v b.place b.stream b.steps loops (there first.there) first)
+            (λ is first. none_listed v loops is first);
+        never = λ some on.
+            let worlds = s.worlds (none on) (all_if_never_busy asked some) in
+            let known = busy.first on some worlds in
+            let says = busy.asked on some worlds in (
+              λ is.
+                  says.0
+                  (if_none_listed _ c.in_ok-busy.busy loops listed known
+                  (λ b there first. (loop_of v b.place b.stream b.steps, there first.there)) is),
+              λ is. if_not_found _ c.in_ok-busy.busy listed (says.1 is),
+            );
+        unasked = λ off. if_not_found _ c.in_ok-busy.busy listed (busy.unasked off);
+        unknown = λ off. if_not_found _ c.in_ok-busy.busy listed (busy.unknown off);
+      };
       rule = c.first_broken.ensures ∙ ap (position (λ r. not (is_kept c.args.image.now r))) c.rules.ensures;
       unshown = c.in_ok-unshown.ensures.unshown;
       shown = c.in_ok-unshown.ensures.shown;
