@@ -1,5 +1,5 @@
 -- What the run of a seed comes to.
-use Rattle.std.specs.Prelude.{◌≡◌, ◌↔◌, ℕ, List, Option, Some, None, length, not, IsFalse}
+use Rattle.std.specs.Prelude.{◌≡◌, ◌↔◌, ℕ, List, length, not, IsFalse}
 use Rattle.std.specs.List.{position}
 use Rattle.image_file.specs.ImageValue.{ImageValue}
 use Rattle.processor.specs.declared.steps.Step.{Step}
@@ -12,9 +12,8 @@ use Rattle.expectations.specs.Meeting.{is_met}
 use Rattle.expectations.specs.declared.expectation.Expectation.{Expectation}
 use Rattle.claims.specs.declared.claim.Claim.{Claim}
 use Rattle.space_ends.specs.ScheduleVerdicts.RightEnds.{AreTrapsExpected}
-use Rattle.space_ends.specs.ScheduleVerdicts.KeptClaims.{AreKeptOnTheWay}
 use Rattle.space_ends.specs.SeedVerdicts.Seeds.{loaded}
-use Rattle.space_ends.specs.SeedVerdicts.RunFlaws.{IsFirstBroken}
+use Rattle.space_ends.specs.FirstBroken.{IsBrokenClaim}
 use Rattle.space_ends.specs.EndStates.EndStates.{IsEndState}
 use Rattle.space_ends.specs.EndStatesTypes.EndJudgement.{EndJudgement}
 use Rattle.space_ends.specs.EndStatesTypes.EndState.{EndState}
@@ -38,11 +37,6 @@ surveyed_program s = record {
   fair = s.fair_steps;
   most = s.most;
 }
-
--- This is the first claim that is broken on the way through a schedule; or none is.
-abbrev pub IsBrokenClaim : ImageValue → List Step → List Claim → Option ℕ → Type 0
-IsBrokenClaim image ts claims None = AreKeptOnTheWay image ts claims
-IsBrokenClaim image ts claims (Some claim) = (taken : ℕ) × IsFirstBroken image ts claims taken claim
 
 -- The run by the schedule that is made by the rule of a seed has so many steps, is judged so, and shows this at its end.
 pub record IsSeedRun (p : SurveyedProgram) (seed steps : ℕ) (j : EndJudgement) (shown : EndState) : Type 0 where

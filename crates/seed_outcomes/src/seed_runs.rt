@@ -2,7 +2,8 @@
 
 ghost use Rattle.std.specs.Prelude.{◌≡◌, ◌≤◌, IfOk};
 ghost use Rattle.seed_outcomes.specs.SeedLists.{seeds_between};
-ghost use Rattle.seed_outcomes.specs.SeedRuns.{surveyed_program, IsSeedRun, IsBrokenClaim};
+ghost use Rattle.seed_outcomes.specs.SeedRuns.{surveyed_program, IsSeedRun};
+ghost use Rattle.space_ends.specs.FirstBroken.{IsBrokenClaim};
 ghost use Rattle.seed_outcomes.specs.Outcomes.{AreOutcomes};
 
 use crate::adding::add_outcome;
