@@ -10,7 +10,7 @@ use crate::option_sums::{cases_sum, options_sum};
 use crate::page_folder::{PageFolder, reserve_all};
 use crate::progress::Progress;
 use crate::side_by_side::{jobs_of, judge_class};
-use class_results::{ClassPart, class_of};
+use class_results::{ClassPart, class_of, judged_in};
 use expectation_messages::parts::{CommandAnswer, Inputs, LabFault, Status};
 use lab_requests::GradeRequest;
 use lab_texts::NumberStyle;
@@ -142,25 +142,12 @@ fn submissions_of<'r>(
     } else {
         Vec::from_slice(alloc, &request.submissions)?
     };
-    let mut judged = Vec::new(alloc);
-    for (place, path) in class.iter().enumerate() {
-        if is_judged(part, place) {
-            judged.push(*path)?;
-        }
-    }
+    let judged = judged_in(alloc, part, &class)?;
     Ok(Submissions {
         class,
         part,
         judged,
     })
-}
-
-/// Whether the submission of a place of the class is judged.
-pub(crate) fn is_judged(part: Option<ClassPart>, place: usize) -> bool {
-    match part {
-        Some(part) => part.count > 0 && part.has(place),
-        None => true,
-    }
 }
 
 /// The part of these words.

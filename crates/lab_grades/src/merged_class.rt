@@ -2,7 +2,7 @@
 
 use crate::grading::{status_of, whole_report};
 use crate::kept_results::{line_in, no_results, note_damaged};
-use class_results::{KeptPlace, MergeFault, class_of, merged_places};
+use class_results::{KeptPlace, MergeFault, MergedTable, class_of, merged_places, merged_table};
 use expectation_messages::parts::{CommandAnswer, Inputs, LabFault, Status};
 use lab_requests::MergeRequest;
 use plain_text::push_plain;
@@ -59,7 +59,8 @@ pub fn merge<F: Files, R: Read, W: Write>(
             return Err(differ(alloc, &gathered, one, other)?);
         }
     };
-    let table = table_of(alloc, &class, &places, &gathered.results, &mut notes)?;
+    let merged = merged_table(alloc, &class, &places)?;
+    let table = table_of(alloc, &merged, &gathered.results, &mut notes)?;
     print_table(alloc, form, &table, printer)?;
     let output = whole_report(alloc, form, &table.paths, &table.rows)?;
     Ok(CommandAnswer {
@@ -229,29 +230,25 @@ fn differ(
 /// The rows of the submissions that some file has; the others are noted.
 fn table_of<'p>(
     alloc: Global,
-    class: &[&'p str],
-    places: &[Option<usize>],
+    merged: &MergedTable<'p>,
     results: &[&KeptResult],
     notes: &mut String,
 ) -> Result<Table<'p>, AllocError> {
     let mut table = Table {
         paths: Vec::new(alloc),
         rows: Vec::new(alloc),
-        lacks_some: false,
+        lacks_some: !merged.missing.is_empty(),
     };
-    for (path, place) in class.iter().zip(places.iter()) {
-        match place.and_then(|place| results.get(place)) {
-            Some(result) => {
-                table.paths.push(*path)?;
-                table.rows.push(result.row.clone()?)?;
-            }
-            None => {
-                table.lacks_some = true;
-                notes.push_str("mta_lab: ")?;
-                push_plain(notes, path)?;
-                notes.push_str(": no file of results has it\n")?;
-            }
+    for row in merged.rows.iter() {
+        if let Some(result) = results.get(row.kept) {
+            table.paths.push(row.submission)?;
+            table.rows.push(result.row.clone()?)?;
         }
+    }
+    for path in merged.missing.iter() {
+        notes.push_str("mta_lab: ")?;
+        push_plain(notes, path)?;
+        notes.push_str(": no file of results has it\n")?;
     }
     Ok(table)
 }

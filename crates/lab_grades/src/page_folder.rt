@@ -2,11 +2,10 @@
 
 use crate::class_stages::Graded;
 use crate::grade_notes::GradeNotes;
-use crate::grading::is_judged;
 use crate::judging::Grading;
 use crate::page_names::page_names;
 use crate::verdict_pages::page_of_row;
-use class_results::ClassPart;
+use class_results::{ClassPart, is_judged};
 use expectation_messages::parts::{Inputs, LabFault, slash_after};
 use lab_requests::GradeRequest;
 use plain_text::{file_name, stem_of};
