@@ -16,7 +16,7 @@ const ROOT: u32 = 0;
 /// The most links that are followed, as many as the system follows.
 const MOST_LINKS: usize = 40;
 
-/// A link on the way to a file, of which a reader is told.
+/// A link on the way to a file that `grade` warns about.
 #[derive(Drop)]
 pub struct LinkOut {
     /// The path of the file that it leads to, if that is UTF-8 and still the file that was opened.
@@ -40,9 +40,9 @@ enum Way {
 /// What was found of the links of a path.
 #[derive(Drop)]
 pub(crate) enum FoundLink {
-    /// None of which a reader is told.
+    /// None to warn about.
     Nothing,
-    /// One of which a reader is told.
+    /// One to warn about.
     Out(LinkOut),
     /// The path leads to another file by now.
     Elsewhere,
@@ -110,7 +110,7 @@ fn way_of<F: Files>(
             return Ok(Way::OfAnother);
         };
         let rest = place.get(end..).unwrap_or("");
-        place = behind_link(alloc, link, &target.into_string(), rest)?;
+        place = path_after_link(alloc, link, &target.into_string(), rest)?;
     }
     Ok(Way::OfAnother)
 }
@@ -157,7 +157,12 @@ fn is_link_of<F: Files>(files: &F, path: &str, user: u32, own: Option<u32>) -> b
 }
 
 /// The path that a link leads to, with what stands after the link.
-fn behind_link(alloc: Global, link: &str, target: &str, rest: &str) -> Result<String, AllocError> {
+fn path_after_link(
+    alloc: Global,
+    link: &str,
+    target: &str,
+    rest: &str,
+) -> Result<String, AllocError> {
     let folder = match link.rfind('/') {
         Some(slash) if !target.starts_with('/') => {
             link.get(..slash.saturating_add(1)).unwrap_or("")

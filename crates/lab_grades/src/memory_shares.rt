@@ -19,7 +19,7 @@ pub(crate) fn megabytes_in_all(request: &GradeRequest) -> usize {
     request.megabytes_in_all.unwrap_or(USUAL_MEGABYTES)
 }
 
-/// How many of so many megabytes each search may hold, where there are so many at a time; one alone may hold all.
+/// How many of so many megabytes each search may hold, if there are so many at a time; one alone may hold all.
 pub(crate) fn megabytes_of_each(in_all: usize, searches: usize) -> usize {
     match searches {
         0 | 1 => in_all,
