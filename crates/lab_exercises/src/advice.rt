@@ -7,11 +7,11 @@ use exercise_advice::{
     read_advice,
 };
 use image_file::Image;
-use lab_grades::parts::{LabFault, made_by};
 use lab_requests::Maker;
 use plain_text::plain;
 use processor::Step;
 use std::alloc::{AllocError, Global};
+use submission_rows::parts::{LabFault, made_by};
 
 /// What a line of advice looks like.
 const LINES: &str = "a line of advice is VERDICT: SENTENCE or VERDICT, FACT, ..: SENTENCE";

@@ -7,7 +7,6 @@ use crate::judging::{QUICK, THOROUGH, judge};
 use crate::listing::{push_line, widest};
 use crate::telling::push_judgement;
 use exercise_advice::searches::Console;
-use lab_grades::parts::{CommandAnswer, Inputs, LabFault, Status};
 use lab_requests::ExerciseRequest;
 use plain_text::{plain, plural};
 use std::alloc::{AllocError, Global};
@@ -16,6 +15,7 @@ use std::rt::Files;
 use std::str;
 use std::thread::Threads;
 use std::time::Clock;
+use submission_rows::parts::{CommandAnswer, Inputs, LabFault, Status};
 
 /// Where exercises are, where nothing else is said.
 const USUAL_FOLDER: &str = "exercises";

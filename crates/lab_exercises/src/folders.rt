@@ -1,11 +1,11 @@
 //! The exercises of a folder.
 
-use lab_grades::parts::{Inputs, LabFault, folder_names, slash_after};
 use plain_text::plain;
 use std::alloc::{AllocError, Global};
 use std::io::Read;
 use std::rt::Files;
 use std::str;
+use submission_rows::parts::{Inputs, LabFault, folder_names, slash_after};
 
 /// What is said besides of a folder that can't be read.
 const ADVICE: &str = "; --folder says where the exercises are";

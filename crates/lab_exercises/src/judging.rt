@@ -3,15 +3,15 @@
 use crate::folders::Exercise;
 use exercise_advice::judges::VerdictKind;
 use exercise_advice::searches::Console;
-use lab_grades::parts::{Inputs, LabFault};
-use lab_grades::reports::{GradeRow, reason_of};
-use lab_grades::{DecidedByCase, judged_alone};
 use lab_requests::{Bounds, GradeCases, GradeFormat, GradeRequest, Undecided};
 use std::alloc::Global;
 use std::io::{Read, Write};
 use std::rt::Files;
 use std::thread::Threads;
 use std::time::Clock;
+use submission_rows::parts::{Inputs, LabFault};
+use submission_rows::reports::{GradeRow, reason_of};
+use submission_rows::{DecidedByCase, judged_alone};
 
 /// How far a program is looked at.
 #[derive(Clone, Copy)]

@@ -3,10 +3,10 @@
 use crate::folders::Exercise;
 use crate::judging::Judgement;
 use exercise_advice::judges::Witness;
-use lab_grades::reports::GradeRow;
 use plain_text::{plain, push_plain};
 use schedule_turns::turns_of;
 use std::alloc::{AllocError, Global};
+use submission_rows::reports::GradeRow;
 
 /// Adds what is said of a program: the verdict, what shows it or what was looked at, the sentence on it, and commands that
 /// show the run.

@@ -1,11 +1,9 @@
 //! The submissions of a class on their way: read, judged, and written in their order.
 
 use crate::class_stages::{Desk, Graded, Job, Next, Outcome, Slot, Stage};
-use crate::judging::Grading;
 use crate::kept_results::{KeptResults, NO_TEXT};
 use crate::page_folder::PageFolder;
 use crate::progress::{Progress, Reached};
-use crate::submissions::{ReadSubmission, program_or_row, read_submission};
 use class_results::Checksum;
 use expectation_messages::parts::{LabFault, Program};
 use result_lines::checksum_of;
@@ -17,6 +15,7 @@ use std::io::{Read, Write};
 use std::mem;
 use std::rt::Files;
 use std::time::Clock;
+use submission_rows::{Grading, ReadSubmission, program_or_row, read_submission};
 
 /// How many bytes the texts and images have at a time that are read and not yet written, beside the last one.
 const MOST_BYTES: usize = 16_777_216;

@@ -1,10 +1,8 @@
 //! The command `grade`.
 
-use crate::case_files::read_cases;
 use crate::class_flow::ClassFlow;
 use crate::class_stages::Desk;
 use crate::grade_notes::GradeNotes;
-use crate::judging::{Grading, form_of};
 use crate::kept_results::KeptResults;
 use crate::option_sums::{cases_sum, options_sum};
 use crate::page_folder::{PageFolder, reserve_all};
@@ -13,7 +11,6 @@ use crate::side_by_side::{jobs_of, judge_class};
 use class_results::{ClassPart, class_of, judged_in};
 use expectation_messages::parts::{CommandAnswer, Inputs, LabFault, Status};
 use lab_requests::GradeRequest;
-use lab_texts::NumberStyle;
 use printed_lines::Printer;
 use program_pages::searches::Console;
 use result_lines::ClassHead;
@@ -25,6 +22,7 @@ use std::rt::Files;
 use std::sync::Wait;
 use std::thread::Threads;
 use std::time::Clock;
+use submission_rows::{Grading, read_cases};
 
 /// The submissions of a call.
 #[derive(Drop)]
@@ -54,14 +52,8 @@ pub fn grade<X: Threads + Wait + Sync + Clock, F: Files, R: Read, W: Write, E: W
     } = submissions_of(alloc, request)?;
     let cases = read_cases(alloc, inputs, request.cases)?;
     let mut pages = PageFolder::open(alloc, inputs, request, &class, part)?;
-    let grading = Grading {
-        request,
-        submissions: &judged,
-        cases: &cases,
-        style: style_of(request),
-        jobs: jobs_of(rt, request, judged.len()),
-        form: form_of(request, &cases),
-    };
+    let jobs = jobs_of(rt, request, judged.len());
+    let grading = Grading::of(request, &judged, &cases, jobs);
     let kept = match request.results {
         Some(path) => {
             reserve_all(alloc, inputs, &class)?;
@@ -184,21 +176,4 @@ fn head_for(
         points: grading.form.points,
         submissions: paths,
     })
-}
-
-/// How many cases have a name.
-pub(crate) fn named_cases(cases: &[Case]) -> usize {
-    cases
-        .iter()
-        .filter(|case: &&Case| case.name.is_some())
-        .count()
-}
-
-/// How the numbers of ends are told.
-pub(crate) fn style_of(request: &GradeRequest) -> NumberStyle {
-    if request.hexadecimal {
-        NumberStyle::Hexadecimal
-    } else {
-        NumberStyle::Decimal
-    }
 }

@@ -1,11 +1,11 @@
 //! Checksums of what a verdict depends on beside the submission.
 
-use crate::judging::Grading;
 use class_results::Checksum;
 use lab_requests::Bounds;
 use result_lines::checksum_of;
 use result_lines::judges::Case;
 use std::alloc::{AllocError, Global};
+use submission_rows::Grading;
 
 /// The checksum of the options that a row depends on, and of the version of the program.
 pub(crate) fn options_sum(

@@ -2,7 +2,6 @@
 
 use crate::class_stages::Graded;
 use crate::grade_notes::GradeNotes;
-use crate::judging::Grading;
 use crate::page_names::page_names;
 use crate::verdict_pages::page_of_row;
 use class_results::{ClassPart, is_judged};
@@ -15,6 +14,7 @@ use std::alloc::{AllocError, Global};
 use std::io::{Read, Write};
 use std::rt::Files;
 use std::time::Clock;
+use submission_rows::Grading;
 
 /// The folder for pages, where one is asked for, and that for texts.
 #[derive(Drop)]

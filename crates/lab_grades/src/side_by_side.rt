@@ -2,8 +2,6 @@
 
 use crate::class_flow::ClassFlow;
 use crate::class_stages::{Desk, Job, Next, Outcome};
-use crate::judging::{Grading, row_on};
-use crate::memory_shares::most_searches;
 use crossbeam_channel::{Receiver, Sender, unbounded};
 use expectation_messages::parts::LabFault;
 use lab_requests::GradeRequest;
@@ -17,6 +15,7 @@ use std::sync::Wait;
 use std::thread;
 use std::thread::Threads;
 use std::time::{Clock, Duration};
+use submission_rows::{Grading, most_searches, row_on};
 
 /// How many milliseconds pass at most before progress is shown again.
 const SHOWN_EACH: u64 = 1_000;

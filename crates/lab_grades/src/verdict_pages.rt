@@ -1,6 +1,5 @@
 //! The pages of verdicts: runs that show that submissions are not right.
 
-use crate::judging::{Grading, given_by};
 use expectation_messages::parts::{LabFault, Program, made_by};
 use lab_requests::Maker;
 use lab_texts::ProgramNames;
@@ -13,6 +12,7 @@ use result_lines::reports::{CaseRow, GradeRow, case_for_student};
 use std::alloc::{AllocError, Global};
 use std::io::Write;
 use std::time::Clock;
+use submission_rows::{Grading, given_by};
 
 /// What the page of a run by a schedule of a search calls it.
 const THAT_DECIDES: &str = "the schedule that decides";

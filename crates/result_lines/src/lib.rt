@@ -4,10 +4,11 @@
 
 mod hex;
 mod lines;
+mod members;
+mod read_rows;
 mod row_values;
 mod row_words;
 mod sealed;
-mod written;
 
 pub use grade_reports as reports;
 pub use grade_reports::{judges, outcomes};

@@ -1,17 +1,15 @@
 //! The lines of a file of kept results.
 
 use crate::hex::{checksum_in, hex_of};
-use crate::row_values::{row_in, written_row};
+use crate::members::{ReadFault, count_in, list_in, number_in, some_text_in, text_in, wanted};
+use crate::read_rows::row_in;
+use crate::row_values::{row_value, some_text_value};
 use crate::sealed::{sealed, unsealed};
-use crate::written::{WrittenHead, WrittenResult};
 use class_results::{Checksum, ResultBasis};
 use grade_reports::GradeRow;
-use serde::Serialize;
-use serde_json::{from_str, to_string};
+use lab_json::{List, Object, text_value};
+use serde_json::Value;
 use std::alloc::{AllocError, Global};
-
-/// The version of all objects (share/schema).
-const VERSION: u64 = 2;
 
 /// The `object` of a class.
 const CLASS: &str = "class";
@@ -62,24 +60,19 @@ pub enum ResultLine {
 
 /// The line of what a call is to judge, with its end.
 pub fn head_line(alloc: Global, head: &ClassHead) -> Result<String, AllocError> {
-    let mut submissions = Vec::new(alloc);
+    let mut object = Object::of_kind(alloc, CLASS);
+    object.put_text("program", &head.version);
+    object.put("part", some_text_value(alloc, head.part.as_ref()));
+    put_checksum(alloc, &mut object, "options", &head.options);
+    put_checksum(alloc, &mut object, "cases", &head.cases);
+    object.put_number("named_cases", head.named_cases as u64);
+    object.put_number("points", head.points);
+    let mut submissions = List::new(alloc);
     for path in &head.submissions {
-        submissions.push(path.clone()?)?;
+        submissions.put(text_value(alloc, path));
     }
-    line_of(
-        alloc,
-        &WrittenHead {
-            version: VERSION,
-            object: String::from_str(alloc, CLASS)?,
-            program: head.version.clone()?,
-            part: head.part.clone()?,
-            options: hex_of(alloc, &head.options)?,
-            cases: hex_of(alloc, &head.cases)?,
-            named_cases: head.named_cases,
-            points: head.points,
-            submissions,
-        },
-    )
+    object.put("submissions", submissions.whole());
+    line_of(alloc, object)
 }
 
 /// The line of what was said of the submission of a path, with its end.
@@ -89,88 +82,97 @@ pub fn result_line(
     basis: &ResultBasis,
     row: &GradeRow,
 ) -> Result<String, AllocError> {
-    line_of(
-        alloc,
-        &WrittenResult {
-            version: VERSION,
-            object: String::from_str(alloc, RESULT)?,
-            submission: String::from_str(alloc, path)?,
-            text: hex_of(alloc, &basis.submission)?,
-            options: hex_of(alloc, &basis.options)?,
-            cases: hex_of(alloc, &basis.cases)?,
-            row: written_row(alloc, row)?,
-        },
-    )
+    let mut object = Object::of_kind(alloc, RESULT);
+    object.put_text("submission", path);
+    put_checksum(alloc, &mut object, "text", &basis.submission);
+    put_checksum(alloc, &mut object, "options", &basis.options);
+    put_checksum(alloc, &mut object, "cases", &basis.cases);
+    object.put("row", row_value(alloc, row));
+    line_of(alloc, object)
+}
+
+/// Puts the digits of a checksum.
+fn put_checksum(alloc: Global, object: &mut Object, name: &str, checksum: &Checksum) {
+    let digits = match hex_of(alloc, checksum) {
+        Ok(digits) => Ok(Value::String(digits)),
+        Err(fault) => Err(fault),
+    };
+    object.put(name, digits);
 }
 
 /// The line of an object.
-fn line_of<T: Serialize>(alloc: Global, object: &T) -> Result<String, AllocError> {
-    match to_string(alloc, object) {
-        Ok(text) => sealed(alloc, &text),
-        // (nothing of it is a number that JSON lacks)
-        Err(_) => Err(AllocError),
-    }
+fn line_of(alloc: Global, object: Object) -> Result<String, AllocError> {
+    let text = object.whole()?.to_string(alloc)?;
+    sealed(alloc, &text)
 }
 
 /// What a line says, which is given without its end.
 pub fn read_line(alloc: Global, line: &str) -> Result<ResultLine, AllocError> {
-    let Some(object) = unsealed(alloc, line)? else {
+    let Some(text) = unsealed(alloc, line)? else {
         return Ok(ResultLine::Damaged);
     };
-    if let Ok(written) = from_str::<WrittenResult>(alloc, &object) {
-        return result_in(alloc, written);
+    let object = match Value::from_str(alloc, &text) {
+        Ok(object) => object,
+        Err(fault) if fault.is_memory() => return Err(AllocError),
+        Err(_) => return Ok(ResultLine::Damaged),
+    };
+    match said_in(alloc, &object) {
+        Ok(said) => Ok(said),
+        Err(ReadFault::NoMemory) => Err(AllocError),
+        Err(ReadFault::Damaged) => Ok(ResultLine::Damaged),
     }
-    match from_str::<WrittenHead>(alloc, &object) {
-        Ok(written) => Ok(head_in(written)),
-        Err(_) => Ok(ResultLine::Damaged),
+}
+
+/// What an object says.
+fn said_in(alloc: Global, object: &Value) -> Result<ResultLine, ReadFault> {
+    let called = text_in(object, "object")?;
+    if called == RESULT {
+        return Ok(ResultLine::Result(result_in(alloc, object)?));
     }
+    if called == CLASS {
+        return Ok(ResultLine::Head(head_in(alloc, object)?));
+    }
+    Err(ReadFault::Damaged)
 }
 
 /// The head of these members.
-fn head_in(written: WrittenHead) -> ResultLine {
-    let (Some(options), Some(cases)) = (checksum_in(&written.options), checksum_in(&written.cases))
-    else {
-        return ResultLine::Damaged;
+fn head_in(alloc: Global, object: &Value) -> Result<ClassHead, ReadFault> {
+    let mut head = ClassHead {
+        version: String::new(alloc),
+        part: None,
+        options: sum_in(object, "options")?,
+        cases: sum_in(object, "cases")?,
+        named_cases: count_in(object, "named_cases")?,
+        points: number_in(object, "points")?,
+        submissions: Vec::new(alloc),
     };
-    if written.object.as_str() != CLASS {
-        return ResultLine::Damaged;
+    head.version.push_str(text_in(object, "program")?)?;
+    if let Some(part) = some_text_in(object, "part")? {
+        head.part = Some(String::from_str(alloc, part)?);
     }
-    ResultLine::Head(ClassHead {
-        version: written.program,
-        part: written.part,
-        options,
-        cases,
-        named_cases: written.named_cases,
-        points: written.points,
-        submissions: written.submissions,
-    })
+    for path in list_in(object, "submissions")? {
+        let path = wanted(path.as_str())?;
+        head.submissions.push(String::from_str(alloc, path)?)?;
+    }
+    Ok(head)
 }
 
 /// The result of these members.
-fn result_in(alloc: Global, written: WrittenResult) -> Result<ResultLine, AllocError> {
-    let (Some(submission), Some(options), Some(cases)) = (
-        checksum_in(&written.text),
-        checksum_in(&written.options),
-        checksum_in(&written.cases),
-    ) else {
-        return Ok(ResultLine::Damaged);
+fn result_in(alloc: Global, object: &Value) -> Result<KeptResult, ReadFault> {
+    let basis = ResultBasis {
+        submission: sum_in(object, "text")?,
+        cases: sum_in(object, "cases")?,
+        options: sum_in(object, "options")?,
     };
-    let WrittenResult {
-        object,
-        submission: path,
+    let row = row_in(alloc, wanted(object.get("row"))?)?;
+    Ok(KeptResult {
+        submission: String::from_str(alloc, text_in(object, "submission")?)?,
+        basis,
         row,
-        ..
-    } = written;
-    match row_in(alloc, row)? {
-        Some(row) if object.as_str() == RESULT => Ok(ResultLine::Result(KeptResult {
-            submission: path,
-            basis: ResultBasis {
-                submission,
-                cases,
-                options,
-            },
-            row,
-        })),
-        Some(_) | None => Ok(ResultLine::Damaged),
-    }
+    })
+}
+
+/// The checksum of a member's digits.
+fn sum_in(object: &Value, name: &str) -> Result<Checksum, ReadFault> {
+    wanted(checksum_in(text_in(object, name)?))
 }

@@ -1,255 +1,162 @@
-//! Rows as the members of objects, and back.
+//! Rows as values of JSON ("Results", docs/FORMATS.md).
 
 use crate::hex::checksum_of;
-use crate::row_words::{bound_of, end_kind_of, kind_of, status_of};
-use crate::written::{
-    WrittenCase, WrittenEnd, WrittenKnown, WrittenLine, WrittenPosition, WrittenRow, WrittenStep,
-    WrittenWitness,
-};
 use class_results::Checksum;
 use grade_reports::judges::{Known, Witness};
 use grade_reports::{CaseRow, CountedEnd, GradeRow, ReportLine, SourcePosition};
+use lab_json::{List, Object, text_value};
 use processor::Step;
+use serde_json::Value;
 use std::alloc::{AllocError, Global};
 
-/// The members of a row. Its page is none of them: each call writes its own.
-pub(crate) fn written_row(alloc: Global, row: &GradeRow) -> Result<WrittenRow, AllocError> {
-    let mut cases = Vec::new(alloc);
-    for case in &row.cases {
-        cases.push(written_case(alloc, case)?)?;
-    }
-    let mut ends = Vec::new(alloc);
-    for end in &row.ends {
-        ends.push(written_end(alloc, end)?)?;
-    }
-    Ok(WrittenRow {
-        verdict: String::from_str(alloc, row.kind.word())?,
-        case: row.case.clone()?,
-        known: written_known(alloc, row.known)?,
-        witness: written_witness(alloc, &row.witness)?,
-        missed: written_line(row.missed.as_ref())?,
-        words: row.words.clone()?,
-        finding: row.finding.clone()?,
-        cases,
-        place: row.place.map(|place| WrittenPosition {
-            line: place.line,
-            column: place.column,
-        }),
-        ends,
-        status: row.status.number(),
-    })
+/// The value of a row. Its page is no part of it: each call writes its own.
+pub(crate) fn row_value(alloc: Global, row: &GradeRow) -> Result<Value, AllocError> {
+    let mut object = Object::new(alloc);
+    object.put_text("verdict", row.kind.word());
+    object.put("case", some_text_value(alloc, row.case.as_ref()));
+    object.put("known", known_value(alloc, row.known));
+    object.put("witness", witness_value(alloc, &row.witness));
+    object.put("missed", missed_value(alloc, row.missed.as_ref()));
+    object.put_text("words", &row.words);
+    object.put_text("finding", &row.finding);
+    object.put("cases", cases_value(alloc, &row.cases));
+    object.put("place", place_value(alloc, row.place));
+    object.put("ends", ends_value(alloc, &row.ends));
+    object.put_number("status", u64::from(row.status.number()));
+    object.whole()
 }
 
-/// The members of what is said by a case.
-fn written_case(alloc: Global, case: &CaseRow) -> Result<WrittenCase, AllocError> {
-    Ok(WrittenCase {
-        name: case.name.clone()?,
-        hidden: case.is_hidden,
-        points: case.points,
-        verdict: String::from_str(alloc, case.kind.word())?,
-        known: written_known(alloc, case.known)?,
-        witness: written_witness(alloc, &case.witness)?,
-        missed: written_line(case.missed.as_ref())?,
-        words: case.words.clone()?,
-        finding: case.finding.clone()?,
-        status: case.status.number(),
-    })
+/// What is said by each case.
+fn cases_value(alloc: Global, cases: &[CaseRow]) -> Result<Value, AllocError> {
+    let mut values = List::new(alloc);
+    for case in cases {
+        values.put(case_value(alloc, case));
+    }
+    values.whole()
 }
 
-/// The members of ends that are counted as one.
-fn written_end(alloc: Global, end: &CountedEnd) -> Result<WrittenEnd, AllocError> {
+/// What is said by a case.
+fn case_value(alloc: Global, case: &CaseRow) -> Result<Value, AllocError> {
+    let mut object = Object::new(alloc);
+    object.put("name", some_text_value(alloc, case.name.as_ref()));
+    object.put("hidden", Ok(Value::Bool(case.is_hidden)));
+    object.put_number("points", u64::from(case.points));
+    object.put_text("verdict", case.kind.word());
+    object.put("known", known_value(alloc, case.known));
+    object.put("witness", witness_value(alloc, &case.witness));
+    object.put("missed", missed_value(alloc, case.missed.as_ref()));
+    object.put_text("words", &case.words);
+    object.put_text("finding", &case.finding);
+    object.put_number("status", u64::from(case.status.number()));
+    object.whole()
+}
+
+/// The ends that are counted.
+fn ends_value(alloc: Global, ends: &[CountedEnd]) -> Result<Value, AllocError> {
+    let mut values = List::new(alloc);
+    for end in ends {
+        values.put(end_value(alloc, end));
+    }
+    values.whole()
+}
+
+/// Ends that are counted as one.
+fn end_value(alloc: Global, end: &CountedEnd) -> Result<Value, AllocError> {
     let kind = match end.kind {
-        Some(kind) => Some(String::from_str(alloc, kind.json_name())?),
-        None => None,
+        Some(kind) => text_value(alloc, kind.json_name()),
+        None => Ok(Value::Null),
     };
-    Ok(WrittenEnd {
-        end: kind,
-        count: end.count,
-        witness: written_witness(alloc, &end.witness)?,
-        text: end.text.clone()?,
-        missed: written_line(end.missed.as_ref())?,
-    })
+    let mut object = Object::new(alloc);
+    object.put("end", kind);
+    object.put_number("count", end.count as u64);
+    object.put("witness", witness_value(alloc, &end.witness));
+    object.put_text("text", &end.text);
+    object.put("missed", missed_value(alloc, end.missed.as_ref()));
+    object.whole()
 }
 
-/// The members of what was looked at.
-fn written_known(alloc: Global, known: Known) -> Result<WrittenKnown, AllocError> {
+/// What was looked at.
+fn known_value(alloc: Global, known: Known) -> Result<Value, AllocError> {
     let bound = match known.bound {
-        Some(bound) => Some(String::from_str(alloc, bound.json_name())?),
-        None => None,
+        Some(bound) => text_value(alloc, bound.json_name()),
+        None => Ok(Value::Null),
     };
-    Ok(WrittenKnown {
-        worlds: known.worlds,
-        every: known.is_every,
-        bound,
-        seeds: known.seeds,
-    })
+    let mut object = Object::new(alloc);
+    object.put("worlds", Ok(some_count_value(known.worlds)));
+    object.put("every", Ok(Value::Bool(known.is_every)));
+    object.put("bound", bound);
+    object.put("seeds", Ok(some_count_value(known.seeds)));
+    object.whole()
 }
 
-/// The members of what shows a verdict.
-fn written_witness(alloc: Global, witness: &Witness) -> Result<WrittenWitness, AllocError> {
-    let mut written = WrittenWitness {
-        seed: None,
-        steps: None,
+/// What shows a verdict: a seed, or the steps of a schedule; neither where nothing does.
+fn witness_value(alloc: Global, witness: &Witness) -> Result<Value, AllocError> {
+    let seed = match witness {
+        Witness::Seed(seed) => Value::from(*seed),
+        Witness::None | Witness::Schedule(_) => Value::Null,
     };
-    match witness {
-        Witness::None => {}
-        Witness::Seed(seed) => written.seed = Some(*seed),
-        Witness::Schedule(steps) => written.steps = Some(written_steps(alloc, steps)?),
-    }
-    Ok(written)
+    let steps = match witness {
+        Witness::Schedule(steps) => steps_value(alloc, steps),
+        Witness::None | Witness::Seed(_) => Ok(Value::Null),
+    };
+    let mut object = Object::new(alloc);
+    object.put("seed", Ok(seed));
+    object.put("steps", steps);
+    object.whole()
 }
 
-/// The members of steps.
-fn written_steps(alloc: Global, steps: &[Step]) -> Result<Vec<WrittenStep>, AllocError> {
-    let mut written = Vec::new(alloc);
+/// The processor and the stream of each step.
+fn steps_value(alloc: Global, steps: &[Step]) -> Result<Value, AllocError> {
+    let mut values = List::new(alloc);
     for step in steps {
-        written.push(WrittenStep {
-            p: step.p,
-            s: step.s,
-        })?;
+        let mut object = Object::new(alloc);
+        object.put_number("p", u64::from(step.p));
+        object.put_number("s", u64::from(step.s));
+        values.put(object.whole());
     }
-    Ok(written)
+    values.whole()
 }
 
-/// The members of a line, which may be missing.
-fn written_line(line: Option<&ReportLine>) -> Result<Option<WrittenLine>, AllocError> {
-    match line {
-        Some(line) => Ok(Some(WrittenLine {
-            line: line.number,
-            text: line.text.clone()?,
-        })),
-        None => Ok(None),
-    }
-}
-
-/// The row of these members; None where a word of them is none of the lab's.
-pub(crate) fn row_in(alloc: Global, written: WrittenRow) -> Result<Option<GradeRow>, AllocError> {
-    let (Some(kind), Some(known), Some(status)) = (
-        kind_of(&written.verdict),
-        known_in(&written.known),
-        status_of(written.status),
-    ) else {
-        return Ok(None);
+/// A line that is missed, by its number and its words.
+fn missed_value(alloc: Global, missed: Option<&ReportLine>) -> Result<Value, AllocError> {
+    let Some(line) = missed else {
+        return Ok(Value::Null);
     };
-    let Some(cases) = cases_in(alloc, written.cases)? else {
-        return Ok(None);
+    let mut object = Object::new(alloc);
+    object.put_number("line", line.number as u64);
+    object.put_text("text", &line.text);
+    object.whole()
+}
+
+/// A place in a source, by its line and its column.
+fn place_value(alloc: Global, place: Option<SourcePosition>) -> Result<Value, AllocError> {
+    let Some(place) = place else {
+        return Ok(Value::Null);
     };
-    let Some(ends) = ends_in(alloc, written.ends)? else {
-        return Ok(None);
-    };
-    Ok(Some(GradeRow {
-        kind,
-        case: written.case,
-        known,
-        witness: witness_in(alloc, written.witness)?,
-        missed: line_in(written.missed),
-        words: written.words,
-        finding: written.finding,
-        cases,
-        place: written.place.map(|place| SourcePosition {
-            line: place.line,
-            column: place.column,
-        }),
-        ends,
-        page: None,
-        status,
-    }))
+    let mut object = Object::new(alloc);
+    object.put_number("line", place.line as u64);
+    object.put_number("column", place.column as u64);
+    object.whole()
 }
 
-/// What is said by the cases of these members.
-fn cases_in(alloc: Global, written: Vec<WrittenCase>) -> Result<Option<Vec<CaseRow>>, AllocError> {
-    let mut cases = Vec::new(alloc);
-    for case in written {
-        let (Some(kind), Some(known), Some(status)) = (
-            kind_of(&case.verdict),
-            known_in(&case.known),
-            status_of(case.status),
-        ) else {
-            return Ok(None);
-        };
-        cases.push(CaseRow {
-            name: case.name,
-            is_hidden: case.hidden,
-            points: case.points,
-            kind,
-            known,
-            witness: witness_in(alloc, case.witness)?,
-            missed: line_in(case.missed),
-            words: case.words,
-            finding: case.finding,
-            status,
-        })?;
+/// A text that may be missing.
+pub(crate) fn some_text_value(alloc: Global, text: Option<&String>) -> Result<Value, AllocError> {
+    match text {
+        Some(text) => text_value(alloc, text),
+        None => Ok(Value::Null),
     }
-    Ok(Some(cases))
 }
 
-/// The ends of these members.
-fn ends_in(alloc: Global, written: Vec<WrittenEnd>) -> Result<Option<Vec<CountedEnd>>, AllocError> {
-    let mut ends = Vec::new(alloc);
-    for end in written {
-        let kind = match &end.end {
-            Some(word) => match end_kind_of(word) {
-                Some(kind) => Some(kind),
-                None => return Ok(None),
-            },
-            None => None,
-        };
-        ends.push(CountedEnd {
-            kind,
-            count: end.count,
-            witness: witness_in(alloc, end.witness)?,
-            text: end.text,
-            missed: line_in(end.missed),
-        })?;
+/// A count that may be missing.
+fn some_count_value(count: Option<usize>) -> Value {
+    match count {
+        Some(count) => Value::from(count),
+        None => Value::Null,
     }
-    Ok(Some(ends))
-}
-
-/// What was looked at, by its members.
-fn known_in(written: &WrittenKnown) -> Option<Known> {
-    let bound = match &written.bound {
-        Some(word) => Some(bound_of(word)?),
-        None => None,
-    };
-    Some(Known {
-        worlds: written.worlds,
-        is_every: written.every,
-        bound,
-        seeds: written.seeds,
-    })
-}
-
-/// What shows a verdict, by its members.
-fn witness_in(alloc: Global, written: WrittenWitness) -> Result<Witness, AllocError> {
-    if let Some(seed) = written.seed {
-        return Ok(Witness::Seed(seed));
-    }
-    let Some(written) = written.steps else {
-        return Ok(Witness::None);
-    };
-    let mut steps = Vec::new(alloc);
-    for step in &written {
-        steps.push(Step {
-            p: step.p,
-            s: step.s,
-        })?;
-    }
-    Ok(Witness::Schedule(steps))
-}
-
-/// A line, by its members.
-fn line_in(written: Option<WrittenLine>) -> Option<ReportLine> {
-    let line = written?;
-    Some(ReportLine {
-        number: line.line,
-        text: line.text,
-    })
 }
 
 /// The checksum of all that is said of a submission.
 pub fn row_checksum(alloc: Global, row: &GradeRow) -> Result<Checksum, AllocError> {
-    match serde_json::to_string(alloc, &written_row(alloc, row)?) {
-        Ok(text) => Ok(checksum_of(text.as_bytes())),
-        Err(_) => Err(AllocError),
-    }
+    let text = row_value(alloc, row)?.to_string(alloc)?;
+    Ok(checksum_of(text.as_bytes()))
 }

@@ -2,7 +2,7 @@
 
 use crate::case_words::CaseText;
 use crate::report_lines::absent_line;
-use result_lines::judges::Case;
+use grade_reports::judges::Case;
 use source_places::{DataName, SourcePlaces};
 use std::alloc::{AllocError, Global};
 use std::str;

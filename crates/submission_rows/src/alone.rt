@@ -1,17 +1,16 @@
 //! One submission that is judged alone: its row, and what decides it as values.
 
 use crate::case_files::read_cases;
-use crate::grading::{named_cases, style_of};
-use crate::judging::{Grading, form_of, judgement_on};
+use crate::judging::{Grading, judgement_on, named_cases};
 use crate::rows::row_of;
 use crate::submissions::{ReadSubmission, program_or_row, read_submission};
 use expectation_files::{FileFault, Requirements};
 use expectation_messages::parts::{Inputs, LabFault, Program};
+use grade_reports::GradeRow;
+use grade_reports::judges::{Case, SubmissionJudgement, image_by, required_by};
 use image_file::Image;
 use lab_requests::GradeRequest;
-use program_pages::searches::Console;
-use result_lines::judges::{Case, SubmissionJudgement, image_by, required_by};
-use result_lines::reports::GradeRow;
+use search_texts::searches::Console;
 use std::alloc::{AllocError, Global};
 use std::io::{Read, Write};
 use std::rt::Files;
@@ -67,14 +66,7 @@ pub fn judged_alone<X: Threads + Sync + Clock, F: Files, R: Read, E: Write>(
             });
         }
     };
-    let grading = Grading {
-        request,
-        submissions: &[],
-        cases: &cases,
-        style: style_of(request),
-        jobs: 1,
-        form: form_of(request, &cases),
-    };
+    let grading = Grading::of(request, &[], &cases, 1);
     let judgement = judgement_on(rt, alloc, &grading, &program, console)?;
     let row = row_of(alloc, &grading, &program, &judgement)?;
     Ok(JudgedAlone {

@@ -3,11 +3,11 @@
 use asm_text::AsmFault;
 use case_cells::{CellsFault, program_of_cells, read_cells};
 use expectation_messages::parts::{Inputs, LabFault, folder_names, slash_after};
+use grade_reports::judges::Case;
 use image_file::Image;
 use lab_requests::GradeCases;
 use named_files::shown_name;
 use plain_text::plain;
-use result_lines::judges::Case;
 use source_faults::check_source;
 use std::alloc::{AllocError, Global};
 use std::io::Read;
@@ -53,7 +53,7 @@ fn take_cells<F: Files, R: Read>(
 }
 
 /// The cases that are asked for, in the order of their names, one at least.
-pub(crate) fn read_cases<F: Files, R: Read>(
+pub fn read_cases<F: Files, R: Read>(
     alloc: Global,
     inputs: &mut Inputs<'_, F, R>,
     cases: GradeCases,

@@ -2,7 +2,7 @@
 
 ghost use Rattle.std.specs.Prelude.{◌≡◌, IfOk};
 ghost use Rattle.expectation_files.specs.Marks.{marks_in};
-ghost use Rattle.lab_grades.specs.Rows.{CaseHead, head_in, head_of, heads_in, heads_of};
+ghost use Rattle.submission_rows.specs.Rows.{CaseHead, head_in, head_of, heads_in, heads_of};
 
 use crate::case_words::{AbsentLine, CaseNotation, CaseText, add_absent};
 use crate::judging::Grading;
@@ -11,10 +11,10 @@ use crate::report_lines::CaseLines;
 use crate::row_ends::add_ends;
 use expectation_files::{Requirements, case_marks};
 use expectation_messages::parts::Program;
+use grade_reports::judges::{Case, CaseJudgement, Known, Reason, image_by, required_by};
+use grade_reports::{CaseRow, CountedEnd};
 use image_file::Image;
 use lab_texts::{Notation, ProgramNames};
-use result_lines::judges::{Case, CaseJudgement, Known, Reason, image_by, required_by};
-use result_lines::reports::{CaseRow, CountedEnd};
 use std::alloc::{AllocError, Global};
 
 /// The rows of a program by the judgements on it, one a case, in their order. The ends of each case are added, where they are

@@ -4,15 +4,15 @@ use expectation_messages::parts::{
     Inputs, LabFault, LinkOut, Program, ProgramFault, RegularFile, program_in,
 };
 use fault_messages::{Message, Severity};
-use result_lines::judges::VerdictKind;
-use result_lines::reports::{GradeRow, SourcePosition};
+use grade_reports::judges::VerdictKind;
+use grade_reports::{GradeRow, SourcePosition};
 use std::alloc::{AllocError, Global};
 use std::io::Read;
 use std::rt::Files;
 
 /// A submission that was read.
 #[derive(Drop)]
-pub(crate) struct ReadSubmission {
+pub struct ReadSubmission {
     /// Its bytes, or what is said of one that can't be read.
     pub bytes: Result<Vec<u8>, GradeRow>,
     /// The link that led to it, if that leads out of its folder.
@@ -21,7 +21,7 @@ pub(crate) struct ReadSubmission {
 
 /// Reads a submission. Only a regular file is read, and standard input for `-`; where links are refused, none that is
 /// reached by one.
-pub(crate) fn read_submission<F: Files, R: Read>(
+pub fn read_submission<F: Files, R: Read>(
     alloc: Global,
     inputs: &mut Inputs<'_, F, R>,
     path: &str,
@@ -56,7 +56,7 @@ fn read_file<F: Files, R: Read>(
 }
 
 /// The program of a submission's bytes, or what is said of bytes that are none.
-pub(crate) fn program_or_row(
+pub fn program_or_row(
     alloc: Global,
     bytes: Vec<u8>,
 ) -> Result<Result<Program, GradeRow>, LabFault> {

@@ -1,18 +1,19 @@
 //! How submissions are judged, and what is said of one.
 
-use crate::grading::named_cases;
+ghost use Rattle.std.specs.Prelude.{◌≡◌};
+
 use crate::memory_shares::{megabytes_in_all, megabytes_of_each};
 use crate::rows::{points_of, row_of};
 use expectation_messages::file_fault;
 use expectation_messages::parts::{LabFault, Program};
-use lab_requests::{Bounds, GradeRequest};
-use lab_texts::NumberStyle;
-use program_pages::search_words::search_fault;
-use program_pages::searches::{Console, SearchFault};
-use result_lines::judges::{
+use grade_reports::judges::{
     AskedJudging, Case, JudgeFault, Submission, SubmissionJudgement, image_by, judged_submission,
 };
-use result_lines::reports::{GradeRow, ReportForm};
+use grade_reports::{GradeRow, ReportForm};
+use lab_requests::{Bounds, GradeRequest};
+use lab_texts::NumberStyle;
+use search_texts::search_fault;
+use search_texts::searches::{Console, SearchFault};
 use std::alloc::{AllocError, Global};
 use std::io::Write;
 use std::thread::Threads;
@@ -20,7 +21,7 @@ use std::time::Clock;
 
 /// How submissions are judged.
 #[derive(Clone, Copy)]
-pub(crate) struct Grading<'a, 'r> {
+pub struct Grading<'a, 'r> {
     /// What is asked.
     pub request: &'a GradeRequest<'r>,
     /// The paths of the submissions that are judged, in the order of their rows.
@@ -35,9 +36,39 @@ pub(crate) struct Grading<'a, 'r> {
     pub form: ReportForm,
 }
 
+impl<'a, 'r> Grading<'a, 'r> {
+    /// How the submissions of these paths are judged by these cases, one at least, as is asked, so many side by side.
+    pub fn of(
+        request: &'a GradeRequest<'r>,
+        submissions: &'a [&'r str],
+        cases: &'a [Case],
+        jobs: usize,
+    ) -> Grading<'a, 'r>
+        ensures request { result.request.now ≡ request.now }
+        ensures submissions { result.submissions.now ≡ submissions.now }
+        ensures cases { result.cases.now ≡ cases.now }
+        ensures jobs { result.jobs ≡ jobs }
+    {
+        Grading {
+            request,
+            submissions,
+            cases,
+            style: style_of(request),
+            jobs,
+            form: form_of(request, cases),
+        }
+    }
+}
+
 impl Grading<'_, '_> {
     /// What is asked of each submission. The seeds of one are shared among the processors where submissions are not.
-    pub(crate) fn asked(&self) -> AskedJudging {
+    pub fn asked(&self) -> AskedJudging
+        ensures seeds { result.seeds ≡ self.now.request.now.seeds }
+        ensures most { result.most ≡ self.now.request.now.most }
+        ensures thorough { result.is_thorough ≡ self.now.request.now.is_thorough }
+        ensures names { result.needs_names ≡ self.now.request.now.needs_names }
+        ensures all { result.counts_all ≡ self.now.request.now.counts_all }
+    {
         AskedJudging {
             explored: self.bounds_of_each(),
             is_thorough: self.request.is_thorough,
@@ -61,7 +92,7 @@ impl Grading<'_, '_> {
 }
 
 /// How submissions are reported that are judged by these cases.
-pub(crate) fn form_of(request: &GradeRequest<'_>, cases: &[Case]) -> ReportForm {
+fn form_of(request: &GradeRequest<'_>, cases: &[Case]) -> ReportForm {
     ReportForm {
         format: request.format,
         undecided: request.undecided,
@@ -70,8 +101,25 @@ pub(crate) fn form_of(request: &GradeRequest<'_>, cases: &[Case]) -> ReportForm 
     }
 }
 
+/// How many cases have a name.
+pub(crate) fn named_cases(cases: &[Case]) -> usize {
+    cases
+        .iter()
+        .filter(|case: &&Case| case.name.is_some())
+        .count()
+}
+
+/// How the numbers of ends are written.
+fn style_of(request: &GradeRequest) -> NumberStyle {
+    if request.hexadecimal {
+        NumberStyle::Hexadecimal
+    } else {
+        NumberStyle::Decimal
+    }
+}
+
 /// The row of a submission, which is judged by all cases.
-pub(crate) fn row_on<X: Threads + Sync, C: Clock, E: Write>(
+pub fn row_on<X: Threads + Sync, C: Clock, E: Write>(
     rt: &X,
     alloc: Global,
     grading: &Grading<'_, '_>,
@@ -130,7 +178,7 @@ fn judge_fault(
 }
 
 /// The program with a case's cells; None where the case has none.
-pub(crate) fn given_by(
+pub fn given_by(
     alloc: Global,
     case: &Case,
     program: &Program,

@@ -1,6 +1,6 @@
-use Rattle.lab_grades.specs.Rows.{heads_in, heads_of}
-use Rattle.lab_grades.proofs.Heads.{at_end}
-use Rattle.lab_grades.proofs.case_rows.case_rows.Goals as goal
+use Rattle.submission_rows.specs.Rows.{heads_in, heads_of}
+use Rattle.submission_rows.proofs.Heads.{at_end}
+use Rattle.submission_rows.proofs.case_rows.case_rows.Goals as goal
 
 pub returns : goal.returns
 returns c = at_end c.loop-judged.cases.now c.loop-judged.judged.now (heads_in c.loop-judged.rows.items)

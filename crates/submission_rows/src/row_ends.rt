@@ -2,12 +2,12 @@
 
 use crate::case_words::CaseNotation;
 use end_kinds::EndKind;
-use program_pages::ends_in_words::{state_text, text_of_end};
-use program_pages::ends_of_space::{SpaceEnd, SpaceEndKind};
-use program_pages::states::EndJudgement;
-use result_lines::judges::{CaseJudgement, MissedLine, Witness, line_missed_by};
-use result_lines::outcomes::SeedOutcome;
-use result_lines::reports::CountedEnd;
+use grade_reports::CountedEnd;
+use grade_reports::judges::states::EndJudgement;
+use grade_reports::judges::{CaseJudgement, MissedLine, Witness, line_missed_by};
+use grade_reports::outcomes::SeedOutcome;
+use search_texts::ends_in_words::ends_of_space::{SpaceEnd, SpaceEndKind};
+use search_texts::ends_in_words::{state_text, text_of_end};
 use std::alloc::{AllocError, Global};
 
 /// Adds the ends of a program by a case: the outcomes of all seeds, where these decide, else the ends of all schedules.

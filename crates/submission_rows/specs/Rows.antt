@@ -1,10 +1,10 @@
 -- The rows of the cases of a submission.
 use Rattle.std.specs.Prelude.{ℕ, Bool, List, [], ◌∷◌, map}
 use Rattle.expectation_files.specs.Marks.{marks_in}
-use Rattle.result_lines.specs.JudgementsTypes.Case.{Case}
-use Rattle.result_lines.specs.JudgementsTypes.CaseJudgement.{CaseJudgement}
-use Rattle.result_lines.specs.JudgementsTypes.VerdictKind.{VerdictKind}
-use Rattle.result_lines.specs.GradeReportsTypes.CaseRow.{CaseRow}
+use Rattle.grade_reports.specs.JudgementsTypes.Case.{Case}
+use Rattle.grade_reports.specs.JudgementsTypes.CaseJudgement.{CaseJudgement}
+use Rattle.grade_reports.specs.JudgementsTypes.VerdictKind.{VerdictKind}
+use Rattle.grade_reports.specs.declared.rows.CaseRow.{CaseRow}
 
 -- what a row of a case begins with
 pub record CaseHead : Type 0 where

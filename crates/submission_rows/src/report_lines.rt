@@ -1,8 +1,8 @@
 //! Lines of a file of expectations, as reports have them.
 
 use expectation_files::{NEVER_BUSY, Requirements, WrittenLine, written_line};
-use result_lines::judges::{Case, MissedLine};
-use result_lines::reports::ReportLine;
+use grade_reports::ReportLine;
+use grade_reports::judges::{Case, MissedLine};
 use std::alloc::{AllocError, Global};
 
 /// What a case requires of a program.

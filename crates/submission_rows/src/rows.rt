@@ -1,14 +1,14 @@
 //! The row of a submission that was judged.
 
 ghost use Rattle.std.specs.Prelude.{◌≡◌, IfOk};
-ghost use Rattle.lab_grades.specs.Rows.{heads_in, heads_of};
+ghost use Rattle.submission_rows.specs.Rows.{heads_in, heads_of};
 
 use crate::case_rows::{add_ends_by_case, case_rows, known_as_asked};
 use crate::judging::Grading;
 use expectation_files::case_marks;
 use expectation_messages::parts::Program;
-use result_lines::judges::{Case, SubmissionJudgement, VerdictKind, Witness};
-use result_lines::reports::{CaseRow, GradeRow, ReportLine};
+use grade_reports::judges::{Case, SubmissionJudgement, VerdictKind, Witness};
+use grade_reports::{CaseRow, GradeRow, ReportLine};
 use std::alloc::{AllocError, Global};
 
 /// How many points there are for some cases together.

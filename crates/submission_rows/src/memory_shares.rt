@@ -1,13 +1,13 @@
 //! The megabytes that searches share which go on side by side.
 
 use lab_requests::GradeRequest;
-use program_pages::searches::USUAL_MEGABYTES;
+use search_texts::searches::USUAL_MEGABYTES;
 
 /// The megabytes that the search of a submission has at least, where it is not said how many are judged side by side.
 const LEAST_MEGABYTES: usize = 200;
 
 /// How many searches have their megabytes side by side, one at least.
-pub(crate) fn most_searches(request: &GradeRequest) -> usize {
+pub fn most_searches(request: &GradeRequest) -> usize {
     if request.explored.is_none() {
         return usize::MAX;
     }

@@ -1,6 +1,6 @@
 use Rattle.std.proofs.Common.{◌≡◌, ◌++◌, length}
-use Rattle.lab_grades.specs.Rows.{heads_in, heads_of}
-use Rattle.lab_grades.proofs.case_rows.case_rows.Given as goal
+use Rattle.submission_rows.specs.Rows.{heads_in, heads_of}
+use Rattle.submission_rows.proofs.case_rows.case_rows.Given as goal
 
 -- the rows that were made, and those of the judgements to come
 abbrev pub invariant-loop-judged : goal.invariant-loop-judged
