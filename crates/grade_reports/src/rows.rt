@@ -1,6 +1,7 @@
 //! What is said of a submission: a row of a report.
 
 ghost use Rattle.std.specs.Prelude.{◌≡◌};
+ghost use Rattle.judgements.specs.Statuses.{status_of_kind};
 
 use end_kinds::{EndKind, Status};
 use judgements::{Known, VerdictKind, Witness};
@@ -107,7 +108,8 @@ pub struct GradeRow {
 impl GradeRow {
     /// The row of this kind by what was looked at, with nothing else.
     pub fn plain(alloc: Global, kind: VerdictKind, known: Known) -> GradeRow
-        ensures { result.kind ≡ kind }
+        ensures kind { result.kind ≡ kind }
+        ensures status { result.status ≡ status_of_kind kind }
     {
         GradeRow {
             kind,
@@ -127,7 +129,8 @@ impl GradeRow {
 
     /// That of a submission that did not run, for this reason.
     pub fn of_no_program(alloc: Global, kind: VerdictKind, words: String) -> GradeRow
-        ensures { result.kind ≡ kind }
+        ensures kind { result.kind ≡ kind }
+        ensures status { result.status ≡ status_of_kind kind }
     {
         let mut row = GradeRow::plain(alloc, kind, Known::NOTHING);
         row.words = words;

@@ -1,6 +1,7 @@
 mod Worst
 mod Judged
 mod Flaws
+mod Statuses
 mod Right
 mod Shown
 mod ReadCases

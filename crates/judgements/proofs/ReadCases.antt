@@ -5,10 +5,13 @@ use Rattle.image_file.specs.ImageValue.{ImageValue}
 use Rattle.expectation_files.specs.Judged.{are_rules_kept}
 use Rattle.expectation_files.specs.Seen.{requirements_seen}
 use Rattle.expectation_files.specs.declared.requirements.Requirements.{Requirements}
+use Rattle.seed_outcomes.specs.SeedVerdictsTypes.Seeds.{Seeds}
 use Rattle.case_cells.specs.NamedWords.{name_lacking}
 use Rattle.judgements.specs.Cases.{program_by, names_by, said_by, seeds_of, SpeaksOfGivenIn}
 use Rattle.judgements.specs.Right.{IsRightAsAsked, IsWorkDone}
-use Rattle.judgements.specs.Shown.{IsShownBy, IsCaseJudged, IsReadCase, IsUnjudged, IsNotGiven, kind_without_name}
+use Rattle.judgements.specs.Shown.{IsShownBy, IsCaseJudged, IsCaseKnown, IsReadCase, IsUnjudged, IsNotGiven}
+use Rattle.judgements.specs.Shown.{kind_without_name}
+use Rattle.judgements.specs.Statuses.{IsAsBadAsKind}
 use Rattle.judgements.specs.declared.cases.Case.{Case}
 use Rattle.judgements.specs.declared.cases.AskedJudging.{AskedJudging}
 use Rattle.judgements.specs.declared.case_judgements.CaseJudgement.{CaseJudgement}
@@ -35,7 +38,7 @@ shown_by asked image text case r j said (inr not_given) = inr (inr (inr not_give
 
 by_program : (asked : AskedJudging) (image : ImageValue) (text : List ℕ) (case : Case) (r : Requirements)
     (j : CaseJudgement) → said_by case (program_by image text case) text ≡ Ok (requirements_seen r)
-    → IsKnown asked text case r j (program_by image text case) → IsCaseJudged asked image text case j
+    → IsKnown asked text case r j (program_by image text case) → IsCaseKnown asked image text case j
 by_program asked image text case r j said known = record {
   right = λ yes. record {
     required = r;
@@ -60,7 +63,7 @@ pub read_case : {E : Type 0} (asked : AskedJudging) (image : ImageValue) (text :
     → IfOk result (λ (j : CaseJudgement). j.kind ≡ verdict.Right → IsTrue (are_rules_kept i r.rules.items))
     → IfOk result (λ (j : CaseJudgement). j.kind ≡ verdict.Right → IsWorkDone i r (seeds_of asked))
     → IfOk result (λ (j : CaseJudgement). IsShownBy i r (seeds_of asked) j ⊎ IsNotGiven j)
-    → IfOk result (λ (j : CaseJudgement). IsCaseJudged asked image text case j)
+    → IfOk result (λ (j : CaseJudgement). IsCaseKnown asked image text case j)
 read_case asked image text case i r (Err e) same said given right kept work shown = tt
 read_case asked image text case i r (Ok j) same said given right kept work shown =
     by_program asked image text case r j (subst (λ i. said_by case i text ≡ Ok (requirements_seen r)) same said)
@@ -74,8 +77,59 @@ no_right false e = cc
 -- a submission that lacks the words of a name is not judged, and is not right
 pub without_name : (asked : AskedJudging) (image : ImageValue) (text : List ℕ) (case : Case) (name : ℕ) (j : CaseJudgement)
     → name_lacking asked.needs_names case.given.items text ≡ Some name → j.reason ≡ reason.Lacking name
-    → j.kind ≡ kind_without_name asked.needs_names → IsCaseJudged asked image text case j
+    → j.kind ≡ kind_without_name asked.needs_names → IsCaseKnown asked image text case j
 without_name asked image text case name j lacks why kind = record {
   right = λ yes. absurd (no_right asked.needs_names (sym kind ∙ yes));
   shown = inr (inr (inl (record { name = name; reason = why; first = lacks; kind = kind })));
+}
+
+-- what shows a verdict shows that of a judgement which is the same but for its status
+shown_alike : (image : ImageValue) (required : Requirements) (seeds : Seeds) (j k : CaseJudgement) → k.kind ≡ j.kind
+    → k.reason ≡ j.reason → k.ends ≡ j.ends → IsShownBy image required seeds j → IsShownBy image required seeds k
+shown_alike image required seeds j k kind why ends shown = rw (kind, why, ends) shown
+
+unjudged_alike : (asked : AskedJudging) (image : ImageValue) (text : List ℕ) (case : Case) (j k : CaseJudgement)
+    → k.kind ≡ j.kind → k.reason ≡ j.reason → IsUnjudged asked image text case j → IsUnjudged asked image text case k
+unjudged_alike asked image text case j k kind why (inl absent) = inl (record {
+  number = absent.number;
+  fault = absent.fault;
+  reason = why ∙ absent.reason;
+  said = absent.said;
+  kind = kind ∙ absent.kind;
+})
+unjudged_alike asked image text case j k kind why (inr (inl lacking)) = inr (inl (record {
+  name = lacking.name;
+  reason = why ∙ lacking.reason;
+  first = lacking.first;
+  kind = kind ∙ lacking.kind;
+}))
+unjudged_alike asked image text case j k kind why (inr (inr not_given)) = inr (inr (record {
+  number = not_given.number;
+  reason = why ∙ not_given.reason;
+  kind = kind ∙ not_given.kind;
+}))
+
+known_alike : (asked : AskedJudging) (image : ImageValue) (text : List ℕ) (case : Case) (j k : CaseJudgement)
+    → k.kind ≡ j.kind → k.reason ≡ j.reason → k.ends ≡ j.ends
+    → IsReadCase asked image text case j ⊎ IsUnjudged asked image text case j
+    → IsReadCase asked image text case k ⊎ IsUnjudged asked image text case k
+known_alike asked image text case j k kind why ends (inl read) = inl (record {
+  required = read.required;
+  said = read.said;
+  shown =
+      shown_alike (program_by image text case) read.required (seeds_of asked) j k kind why ends read.shown;
+})
+known_alike asked image text case j k kind why ends (inr unjudged) =
+    inr (unjudged_alike asked image text case j k kind why unjudged)
+
+-- so what is known by a case is judged, with a status as bad as the verdict
+pub with_status : (asked : AskedJudging) (image : ImageValue) (text : List ℕ) (case : Case) (j k : CaseJudgement)
+    → IsCaseKnown asked image text case j → k.kind ≡ j.kind → k.reason ≡ j.reason → k.ends ≡ j.ends
+    → IsAsBadAsKind k → IsCaseJudged asked image text case k
+with_status asked image text case j k known kind why ends status = record {
+  known = record {
+    right = λ yes. known.right (sym kind ∙ yes);
+    shown = known_alike asked image text case j k kind why ends known.shown;
+  };
+  status = status;
 }

@@ -4,5 +4,8 @@ pub mod Cases
 pub mod Right
 pub mod Flaws
 pub mod Missed
+pub mod Statuses
 pub mod Shown
 pub mod Verdicts
+-- Of crates below, passed on to callers.
+pub mod ProgramSearches

@@ -17,6 +17,7 @@ use Rattle.case_cells.specs.NamedWords.{name_lacking}
 use Rattle.judgements.specs.Cases.{program_by, said_by, seeds_of}
 use Rattle.judgements.specs.Flaws.{kind_of_run, kind_of_work, kind_of_end, ShowsAt}
 use Rattle.judgements.specs.Right.{IsRightCase}
+use Rattle.judgements.specs.Statuses.{IsAsBadAsKind}
 use Rattle.judgements.specs.declared.cases.Case.{Case}
 use Rattle.judgements.specs.declared.cases.AskedJudging.{AskedJudging}
 use Rattle.judgements.specs.declared.case_judgements.CaseJudgement.{CaseJudgement}
@@ -118,7 +119,13 @@ IsUnjudged asked image text case j =
     IsAbsent image text case j ⊎ (IsLacking asked text case j ⊎ IsNotGiven j)
 
 -- What is known of a submission by a case: right is so, and what is not right is shown.
-pub record IsCaseJudged (asked : AskedJudging) (image : ImageValue) (text : List ℕ) (case : Case) (j : CaseJudgement)
+pub record IsCaseKnown (asked : AskedJudging) (image : ImageValue) (text : List ℕ) (case : Case) (j : CaseJudgement)
     : Type 0 where
   pub right : j.kind ≡ verdict.Right → IsRightCase asked image text case
   pub shown : IsReadCase asked image text case j ⊎ IsUnjudged asked image text case j
+
+-- The same, with a status that is as bad as the verdict.
+pub record IsCaseJudged (asked : AskedJudging) (image : ImageValue) (text : List ℕ) (case : Case) (j : CaseJudgement)
+    : Type 0 where
+  pub known : IsCaseKnown asked image text case j
+  pub status : IsAsBadAsKind j

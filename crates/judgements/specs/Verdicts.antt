@@ -7,7 +7,7 @@ use Rattle.judgements.specs.Shown.{IsCaseJudged}
 use Rattle.judgements.specs.declared.cases.Case.{Case}
 use Rattle.judgements.specs.declared.cases.AskedJudging.{AskedJudging}
 use Rattle.judgements.specs.declared.case_judgements.CaseJudgement.{CaseJudgement}
-use Rattle.judgements.specs.declared.verdict_kinds.VerdictKind.TheVariants as verdict
+use Rattle.judgements.specs.declared.verdict_kinds.VerdictKind.{VerdictKind}
 
 -- the submission is judged by each of the first so many cases
 abbrev pub AreJudgedBefore : AskedJudging → ImageValue → List ℕ → List Case → List CaseJudgement → ℕ → Type 0
@@ -36,6 +36,6 @@ pub record IsWorst (js : List CaseJudgement) (place : ℕ) : Type 0 where
   pub first : (k : ℕ) (j : CaseJudgement) → slice_get js k ≡ Some j → k < place
       → severity_of j.kind < severity_of worst.kind
 
--- the one that decides says that the submission is right
-abbrev pub DecidesRight : List CaseJudgement → ℕ → Type 0
-DecidesRight js place = (j : CaseJudgement) × (slice_get js place ≡ Some j) × (j.kind ≡ verdict.Right)
+-- this is what a submission is by the judgement at a place
+abbrev pub IsKindAt : List CaseJudgement → ℕ → VerdictKind → Type 0
+IsKindAt js place kind = (j : CaseJudgement) × (slice_get js place ≡ Some j) × (kind ≡ j.kind)

@@ -6,7 +6,7 @@ ghost use Rattle.program_rules.specs.Keeping.{is_kept};
 ghost use Rattle.expectation_files.specs.Judged.{are_rules_kept};
 ghost use Rattle.judgements.specs.Cases.{seeds_of, SpeaksOfGivenIn};
 ghost use Rattle.judgements.specs.Right.{IsRightAsAsked, IsWorkDone};
-ghost use Rattle.judgements.specs.Shown.{IsCaseJudged, IsShownBy, IsNotGiven, kind_without_name};
+ghost use Rattle.judgements.specs.Shown.{IsCaseJudged, IsCaseKnown, IsShownBy, IsNotGiven, kind_without_name};
 
 use crate::by_schedules::{JudgedProgram, judged_by_schedules};
 use crate::by_seeds::judged_by_seeds;
@@ -27,7 +27,7 @@ use std::io::Write;
 use std::thread::Threads;
 use std::time::Clock;
 
-/// What is known of a submission with the cells of a case, by that case.
+/// What is known of a submission with the cells of a case, by that case, with the status that it comes to.
 pub(crate) fn judged_by_case<X: Threads + Sync, C: Clock, E: Write>(
     rt: &X,
     alloc: Global,
@@ -37,6 +37,21 @@ pub(crate) fn judged_by_case<X: Threads + Sync, C: Clock, E: Write>(
     console: &mut Console<'_, C, E>,
 ) -> Result<CaseJudgement, CaseFault>
     ensures { IfOk result (λ j. IsCaseJudged asked submission.entry.image.now submission.entry.text.now case.now j) }
+{
+    let known = known_by_case(rt, alloc, asked, case, submission, console)?;
+    Ok(known.with_status())
+}
+
+/// What is known of a submission with the cells of a case, by that case.
+fn known_by_case<X: Threads + Sync, C: Clock, E: Write>(
+    rt: &X,
+    alloc: Global,
+    asked: AskedJudging,
+    case: &Case,
+    submission: Submission<'_>,
+    console: &mut Console<'_, C, E>,
+) -> Result<CaseJudgement, CaseFault>
+    ensures { IfOk result (λ j. IsCaseKnown asked submission.entry.image.now submission.entry.text.now case.now j) }
 {
     if let Some(name) = name_lacking(alloc, asked.needs_names, &case.given, submission.text)? {
         return Ok(judged_without_name(alloc, asked, name));

@@ -103,7 +103,7 @@ fn judged_by_search(alloc: Global, found: Explored<'_>) -> CaseJudgement
     let status = found.status();
     let decided = decided_by(&found);
     let mut judgement = CaseJudgement::plain(alloc, decided.0, known, decided.1);
-    judgement.status = judgement.status.worse(status);
+    judgement.status = status;
     judgement.ends = found.ends;
     judgement
 }

@@ -192,7 +192,7 @@ fn judged_by_flaw(
     };
     let kind = kind_of(found.flaw);
     let mut judgement = CaseJudgement::plain(alloc, kind, known_of(tried), Reason::Run(shown));
-    judgement.status = judgement.status.worse(status);
+    judgement.status = status;
     Ok(judgement)
 }
 

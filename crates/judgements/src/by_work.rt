@@ -83,12 +83,10 @@ fn judged_by_work(judgement: CaseJudgement, missed: MissedWork) -> CaseJudgement
 {
     // (the seeds begin with 0)
     let tried = (missed.seed as usize).saturating_add(1);
-    let kind = kind_of(missed.end);
     let mut judgement = judgement;
-    judgement.kind = kind;
+    judgement.kind = kind_of(missed.end);
     judgement.known.seeds = Some(tried);
     judgement.reason = Reason::Work(missed);
-    judgement.status = judgement.status.worse(kind.status());
     judgement
 }
 

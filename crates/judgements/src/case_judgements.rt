@@ -2,6 +2,7 @@
 
 ghost use Rattle.std.specs.Prelude.{◌≡◌, None, Some};
 ghost use Rattle.judgements.specs.Missed.{expectation_at, missed_at_end, missed_in_run, missed_by};
+ghost use Rattle.judgements.specs.Statuses.{IsAsBadAsKind};
 
 use crate::knowledge::Known;
 use crate::verdict_kinds::VerdictKind;
@@ -117,12 +118,13 @@ pub struct CaseJudgement {
     pub ends: Vec<SpaceEnd>,
     /// The outcomes of the runs of all seeds, where they are asked for and decide; those that most seeds come to first.
     pub outcomes: Vec<SeedOutcome>,
-    /// What it means for the exit status: the worst over all ends that were found.
+    /// What it means for the exit status: the worst over what the submission is and all ends that were found.
     pub status: Status,
 }
 
 impl CaseJudgement {
-    /// The judgement of this kind by what was looked at, for this reason, without ends.
+    /// The judgement of this kind by what was looked at, for this reason, without ends. The status is that of no end
+    /// (`with_status`).
     pub(crate) fn plain(
         alloc: Global,
         kind: VerdictKind,
@@ -138,8 +140,20 @@ impl CaseJudgement {
             reason,
             ends: Vec::new(alloc),
             outcomes: Vec::new(alloc),
-            status: kind.status(),
+            status: Status::Done,
         }
+    }
+
+    /// The same judgement with a status that is as bad as what the submission is.
+    pub(crate) fn with_status(self) -> CaseJudgement
+        ensures kind { result.kind ≡ self.kind }
+        ensures reason { result.reason ≡ self.reason }
+        ensures ends { result.ends ≡ self.ends }
+        ensures status { IsAsBadAsKind result }
+    {
+        let mut judgement = self;
+        judgement.status = judgement.status.worse(judgement.kind.status());
+        judgement
     }
 
     /// What shows that the submission is not right.

@@ -1,8 +1,10 @@
 //! What is known of a submission by all cases.
 
 ghost use Rattle.std.specs.Prelude.{◌≡◌, ◌<◌, length, IfOk};
+ghost use Rattle.program_searches.specs.Statuses.{worst};
 ghost use Rattle.judgements.specs.Severity.{severity_of};
-ghost use Rattle.judgements.specs.Verdicts.{AreCasesJudged, AreRightCases, IsWorst, DecidesRight};
+ghost use Rattle.judgements.specs.Statuses.{statuses_of};
+ghost use Rattle.judgements.specs.Verdicts.{AreCasesJudged, AreRightCases, IsWorst, IsKindAt};
 
 use crate::by_case::judged_by_case;
 use crate::case_judgements::CaseJudgement;
@@ -17,13 +19,17 @@ use std::io::Write;
 use std::thread::Threads;
 use std::time::Clock;
 
-/// What is known of a submission by all cases.
+/// What is known of a submission by all cases, and what it is by that.
 #[derive(Drop)]
 pub struct SubmissionJudgement {
     /// What is known by each case, in their order, one at least.
     pub cases: Vec<CaseJudgement>,
     /// The place of the case that decides: the first of the most severe ones.
     pub worst: usize,
+    /// What the submission is: right only where it is right by each case.
+    pub kind: VerdictKind,
+    /// What it means for the exit status: the worst over all cases.
+    pub status: Status,
 }
 
 impl SubmissionJudgement {
@@ -34,8 +40,10 @@ impl SubmissionJudgement {
 
     /// What was looked at: of the case that decides, or of all together, where each is right.
     pub fn known(&self) -> Known {
+        if self.kind == VerdictKind::Right {
+            return self.known_of_all();
+        }
         match self.deciding() {
-            Some(case) if case.kind == VerdictKind::Right => self.known_of_all(),
             Some(case) => case.known,
             None => Known::NOTHING,
         }
@@ -49,19 +57,10 @@ impl SubmissionJudgement {
         }
         known
     }
-
-    /// What it means for the exit status: the worst over all cases.
-    pub fn status(&self) -> Status {
-        let mut status = Status::Done;
-        for case in self.cases.iter() {
-            status = status.worse(case.status);
-        }
-        status
-    }
 }
 
 /// What is known of a submission by all cases: each is judged, and the most severe one decides, the first of several. It is
-/// right only where it is right by each.
+/// right only where it is right by each, and so it is where the status is `Done`.
 pub fn judged_submission<X: Threads + Sync, C: Clock, E: Write>(
     rt: &X,
     alloc: Global,
@@ -73,7 +72,11 @@ pub fn judged_submission<X: Threads + Sync, C: Clock, E: Write>(
     ensures cases { IfOk result (λ j. AreCasesJudged
         asked submission.entry.image.now submission.entry.text.now cases.now j.cases.items) }
     ensures worst { IfOk result (λ j. IsWorst j.cases.items j.worst) }
-    ensures right { IfOk result (λ j. DecidesRight j.cases.items j.worst → AreRightCases
+    ensures kind { IfOk result (λ j. IsKindAt j.cases.items j.worst j.kind) }
+    ensures status { IfOk result (λ j. j.status ≡ worst Status.Done (statuses_of j.cases.items)) }
+    ensures right { IfOk result (λ j. j.kind ≡ VerdictKind.Right → AreRightCases
+        asked submission.entry.image.now submission.entry.text.now cases.now) }
+    ensures done { IfOk result (λ j. j.status ≡ Status.Done → AreRightCases
         asked submission.entry.image.now submission.entry.text.now cases.now) }
 {
     if cases.is_empty() {
@@ -87,9 +90,13 @@ pub fn judged_submission<X: Threads + Sync, C: Clock, E: Write>(
         }
     }
     let worst = worst_of(&judged);
+    let kind = kind_at(&judged, worst);
+    let status = status_of(&judged);
     Ok(SubmissionJudgement {
         cases: judged,
         worst,
+        kind,
+        status,
     })
 }
 
@@ -108,4 +115,23 @@ fn worst_of(cases: &[CaseJudgement]) -> usize
         }
     }
     worst
+}
+
+/// What a submission is by the judgement at a place.
+fn kind_at(cases: &[CaseJudgement], place: usize) -> VerdictKind
+    requires { place < length cases.now }
+    ensures { IsKindAt cases.now place result }
+{
+    cases[place].kind
+}
+
+/// The worst status of some judgements; that of none is `Done`.
+fn status_of(cases: &[CaseJudgement]) -> Status
+    ensures { result ≡ worst Status.Done (statuses_of cases.now) }
+{
+    let mut status = Status::Done;
+    for case in cases {
+        status = status.worse(case.status);
+    }
+    status
 }

@@ -2,6 +2,7 @@
 
 ghost use Rattle.std.specs.Prelude.{◌≡◌};
 ghost use Rattle.judgements.specs.Severity.{severity_of};
+ghost use Rattle.judgements.specs.Statuses.{status_of_kind};
 
 use end_kinds::Status;
 
@@ -48,7 +49,9 @@ impl VerdictKind {
     }
 
     /// What it means for the exit status.
-    pub fn status(self) -> Status {
+    pub fn status(self) -> Status
+        ensures { result ≡ status_of_kind self }
+    {
         match self {
             VerdictKind::Deadlock => Status::Deadlock,
             VerdictKind::NotRead

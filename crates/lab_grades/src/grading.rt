@@ -9,13 +9,13 @@ use crate::page_folder::{PageFolder, reserve_all};
 use crate::progress::Progress;
 use crate::side_by_side::{jobs_of, judge_class};
 use class_results::{ClassPart, class_of, judged_in};
-use expectation_messages::parts::{CommandAnswer, Inputs, LabFault, Status};
+use expectation_messages::parts::{CommandAnswer, Inputs, LabFault};
 use lab_requests::GradeRequest;
 use printed_lines::Printer;
 use program_pages::searches::Console;
 use result_lines::ClassHead;
 use result_lines::judges::Case;
-use result_lines::reports::{GradeRow, ReportForm, ReportedRow, report_of};
+use result_lines::reports::{GradeRow, ReportForm, ReportedRow, report_of, worst_status};
 use std::alloc::{AllocError, Global};
 use std::io::{Read, Write};
 use std::rt::Files;
@@ -81,7 +81,7 @@ fn answer_of<T: Drop>(
     flow: ClassFlow<'_, '_, '_, T>,
 ) -> Result<CommandAnswer, LabFault> {
     let output = whole_report(alloc, grading.form, grading.submissions, &flow.rows)?;
-    let status = status_of(&flow.rows);
+    let status = worst_status(&flow.rows);
     let PageFolder { notes, fault, .. } = flow.pages;
     let GradeNotes { lines, .. } = notes;
     Ok(CommandAnswer {
@@ -108,15 +108,6 @@ pub(crate) fn whole_report(
         })?;
     }
     report_of(alloc, form, &reported)
-}
-
-/// The worst status over all rows.
-pub(crate) fn status_of(rows: &[GradeRow]) -> Status {
-    let mut status = Status::Done;
-    for row in rows {
-        status = status.worse(row.status);
-    }
-    status
 }
 
 /// The submissions of a call: as they are named, and where a part of them is judged or results are kept, sorted and

@@ -1,13 +1,13 @@
 //! The command `grade --merge`.
 
-use crate::grading::{status_of, whole_report};
+use crate::grading::whole_report;
 use crate::kept_results::{line_in, no_results, note_damaged};
 use class_results::{KeptPlace, MergeFault, MergedTable, class_of, merged_places, merged_table};
 use expectation_messages::parts::{CommandAnswer, Inputs, LabFault, Status};
 use lab_requests::MergeRequest;
 use plain_text::push_plain;
 use printed_lines::Printer;
-use result_lines::reports::{GradeRow, ReportForm, ReportedRow, head_of, lines_of};
+use result_lines::reports::{GradeRow, ReportForm, ReportedRow, head_of, lines_of, worst_status};
 use result_lines::{ClassHead, KeptResult, ResultLine, row_checksum};
 use std::alloc::{AllocError, Global};
 use std::io::{Read, Write};
@@ -86,9 +86,9 @@ impl Table<'_> {
     /// What it comes to.
     fn status(&self) -> Status {
         if self.lacks_some {
-            status_of(&self.rows).worse(Status::Fault)
+            worst_status(&self.rows).worse(Status::Fault)
         } else {
-            status_of(&self.rows)
+            worst_status(&self.rows)
         }
     }
 }

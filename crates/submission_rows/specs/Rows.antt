@@ -1,5 +1,6 @@
 -- The rows of the cases of a submission.
 use Rattle.std.specs.Prelude.{ℕ, Bool, List, [], ◌∷◌, map}
+use Rattle.end_kinds.specs.declared.statuses.Status.{Status}
 use Rattle.expectation_files.specs.Marks.{marks_in}
 use Rattle.grade_reports.specs.JudgementsTypes.Case.{Case}
 use Rattle.grade_reports.specs.JudgementsTypes.CaseJudgement.{CaseJudgement}
@@ -11,6 +12,7 @@ pub record CaseHead : Type 0 where
   pub kind : VerdictKind
   pub points : ℕ
   pub is_hidden : Bool
+  pub status : Status
 
 -- by the judgement and the file of expectations of a case
 abbrev pub head_of : Case → CaseJudgement → CaseHead
@@ -18,6 +20,7 @@ head_of c j = record {
   kind = j.kind;
   points = (marks_in c.expected.items).points;
   is_hidden = (marks_in c.expected.items).is_hidden;
+  status = j.status;
 }
 
 -- one for each case and its judgement, in their order
@@ -27,7 +30,7 @@ heads_of (c ∷ cs) [] = []
 heads_of (c ∷ cs) (j ∷ js) = head_of c j ∷ heads_of cs js
 
 abbrev pub head_in : CaseRow → CaseHead
-head_in r = record { kind = r.kind; points = r.points; is_hidden = r.is_hidden }
+head_in r = record { kind = r.kind; points = r.points; is_hidden = r.is_hidden; status = r.status }
 
 abbrev pub heads_in : List CaseRow → List CaseHead
 heads_in rs = map head_in rs

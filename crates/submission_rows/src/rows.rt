@@ -8,7 +8,7 @@ use crate::judging::Grading;
 use expectation_files::case_marks;
 use expectation_messages::parts::Program;
 use grade_reports::judges::{Case, SubmissionJudgement, VerdictKind, Witness};
-use grade_reports::{CaseRow, GradeRow, ReportLine};
+use grade_reports::{CaseRow, CountedEnd, GradeRow, ReportLine};
 use std::alloc::{AllocError, Global};
 
 /// How many points there are for some cases together.
@@ -28,62 +28,85 @@ pub(crate) fn row_of(
     program: &Program,
     judgement: &SubmissionJudgement,
 ) -> Result<GradeRow, AllocError>
-    ensures { IfOk result (λ row. heads_in row.cases.items
+    ensures kind { IfOk result (λ row. row.kind ≡ judgement.now.kind) }
+    ensures status { IfOk result (λ row. row.status ≡ judgement.now.status) }
+    ensures cases { IfOk result (λ row. heads_in row.cases.items
         ≡ heads_of grading.now.cases.now judgement.now.cases.items) }
 {
     let cases = case_rows(alloc, grading, program, &judgement.cases)?;
-    let known = known_as_asked(grading, judgement.known());
-    let mut row = GradeRow::plain(alloc, kind_of(judgement), known);
-    row.status = judgement.status();
-    if row.kind != VerdictKind::Right
-        && let Some(deciding) = cases.get(judgement.worst)
-    {
-        copy_deciding(alloc, deciding, &mut row)?;
-        row.witness = match judgement.deciding() {
-            Some(case) => case.witness(alloc)?,
-            None => Witness::None,
-        };
-    }
-    if grading.request.counts_all {
-        add_all_ends(alloc, grading, program, judgement, &mut row)?;
-    }
-    row.cases = cases;
-    Ok(row)
+    let deciding = deciding_text(alloc, judgement, &cases)?;
+    let ends = ends_asked(alloc, grading, program, judgement)?;
+    Ok(GradeRow {
+        kind: judgement.kind,
+        case: deciding.case,
+        known: known_as_asked(grading, judgement.known()),
+        witness: deciding.witness,
+        missed: deciding.missed,
+        words: deciding.words,
+        finding: deciding.finding,
+        cases,
+        place: None,
+        ends,
+        page: None,
+        status: judgement.status,
+    })
 }
 
-/// What a submission is.
-fn kind_of(judgement: &SubmissionJudgement) -> VerdictKind {
-    match judgement.deciding() {
-        Some(case) => case.kind,
-        None => VerdictKind::NotDecided,
+/// What a row says of the case that decides.
+#[derive(Drop)]
+struct DecidingText {
+    /// Its name.
+    case: Option<String>,
+    /// What shows the verdict.
+    witness: Witness,
+    /// The line that is not met, or by which the submission can't be judged.
+    missed: Option<ReportLine>,
+    /// The words.
+    words: String,
+    /// The finding.
+    finding: String,
+}
+
+/// What a row says of the case that decides, by the rows of all cases; nothing where each is right.
+fn deciding_text(
+    alloc: Global,
+    judgement: &SubmissionJudgement,
+    cases: &[CaseRow],
+) -> Result<DecidingText, AllocError> {
+    match cases.get(judgement.worst) {
+        Some(case) if judgement.kind != VerdictKind::Right => Ok(DecidingText {
+            case: case.name.clone()?,
+            witness: case.witness.clone()?,
+            missed: case.missed.clone()?,
+            words: case.words.clone()?,
+            finding: case.finding.clone()?,
+        }),
+        Some(_) | None => Ok(DecidingText {
+            case: None,
+            witness: Witness::None,
+            missed: None,
+            words: String::new(alloc),
+            finding: String::new(alloc),
+        }),
     }
 }
 
-/// Writes into a row what is said by the case that decides.
-fn copy_deciding(alloc: Global, case: &CaseRow, row: &mut GradeRow) -> Result<(), AllocError> {
-    if let Some(name) = &case.name {
-        row.case = Some(String::from_str(alloc, name)?);
-    }
-    if let Some(missed) = &case.missed {
-        row.missed = Some(ReportLine::of(alloc, missed.number, &missed.text)?);
-    }
-    row.words.push_str(&case.words)?;
-    row.finding.push_str(&case.finding)
-}
-
-/// Adds the ends by the case that decides, or by all cases, where each is right.
-fn add_all_ends(
+/// The ends by the case that decides, or by all cases, where each is right; none where they are not asked for.
+fn ends_asked(
     alloc: Global,
     grading: &Grading<'_, '_>,
     program: &Program,
     judgement: &SubmissionJudgement,
-    row: &mut GradeRow,
-) -> Result<(), AllocError> {
-    let is_right = row.kind == VerdictKind::Right;
+) -> Result<Vec<CountedEnd>, AllocError> {
+    let mut ends = Vec::new(alloc);
+    if !grading.request.counts_all {
+        return Ok(ends);
+    }
+    let is_right = judgement.kind == VerdictKind::Right;
     for (place, (case, judged)) in grading.cases.iter().zip(judgement.cases.iter()).enumerate() {
         if is_right || place == judgement.worst {
-            add_ends_by_case(alloc, grading, case, program, judged, &mut row.ends)?;
+            add_ends_by_case(alloc, grading, case, program, judged, &mut ends)?;
         }
     }
-    Ok(())
+    Ok(ends)
 }

@@ -1,0 +1,2 @@
+-- Definitions of program_searches that callers name, passed on.
+pub use Rattle.program_searches.specs.Statuses
