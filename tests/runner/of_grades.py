@@ -6,6 +6,7 @@ import json
 import os
 import re
 import string
+import subprocess
 import tempfile
 import xml.etree.ElementTree
 
@@ -132,6 +133,38 @@ def hidden_values():
                 teacher = json.dumps(json.loads(texts["json"])["cases"]).encode()
                 yield f"{hidden} {words}: all for the teacher", [True, True], [
                     str(wanted).encode() in teacher for _, wanted in UNUSUAL.values()]
+
+
+# names that a shell would not take as they are
+FOR_A_SHELL = ("it's mine.asm", "-x.asm", "- x.asm", "$(touch lost).asm", "*.asm", "a\tb'\\.asm", "\u202eb.asm", "~.asm")
+
+
+def typed(line, folder):
+    """What bash prints in a folder for a command line of mta_lab."""
+    with tempfile.TemporaryDirectory(prefix="mta-bin-") as path:
+        os.symlink(tool.LAB, os.path.join(path, "mta_lab"))
+        known = {"PATH": path + ":" + os.environ["PATH"], "HOME": folder, "LC_ALL": "C.UTF-8"}
+        return subprocess.run(["bash", "-c", line], cwd=folder, env=known, capture_output=True, timeout=tool.PATIENCE,
+                              check=False).stdout
+
+
+@checks.others("grade/feedback_in_a_shell")
+def feedback_in_a_shell():
+    """The call of view in the text for a student shows, typed into a shell, the run that decides: whatever the file is
+    called, and also if runs of seeds may have another number of steps than usual."""
+    for name in FOR_A_SHELL:
+        with tempfile.TemporaryDirectory(prefix="mta-case-") as folder:
+            made(folder, f"in/{name}", COUNTING)
+            made(folder, "w.expect", b"finished\n")
+            lab("grade", "--expect", "w.expect", "--steps", "37", "--feedback", "back", f"in/{name}", folder=folder)
+            texts = [file for file in os.listdir(os.path.join(folder, "back")) if file.endswith(".txt")]
+            yield f"{name!r}: texts", 1, len(texts)
+            text = tool.read(os.path.join(folder, "back", texts[0])).decode()
+            calls = re.findall(r"^- (mta_lab view .*)$", text, re.MULTILINE)
+            yield f"{name!r}: calls", 1, len(calls)
+            shown = typed(calls[0], os.path.join(folder, "in"))
+            yield f"{name!r}: the run", True, b"after 37 steps: ran out of steps" in shown
+            yield f"{name!r}: files", [name], os.listdir(os.path.join(folder, "in"))
 
 
 @checks.others("grade/points")

@@ -1,6 +1,7 @@
 //! What a student is given of a submission, as a text.
 
 use crate::case_scores::{earned_points, score_of};
+use crate::command_words::push_file_word;
 use crate::reasons::{push_turns, reason_by_case, why_of};
 use crate::rows::{CaseRow, GradeRow};
 use crate::student_rows::row_for_student;
@@ -8,6 +9,9 @@ use judgements::{Case, Witness};
 use lab_requests::Undecided;
 use plain_text::{file_name, plain, push_plain};
 use std::alloc::{AllocError, Global};
+
+/// How many steps a run of `view` by a seed has at most, where nothing else is said.
+const USUAL_STEPS: usize = 10_000;
 
 /// A submission as its student knows it.
 #[derive(Clone, Copy)]
@@ -20,6 +24,8 @@ pub struct StudentFile<'a> {
     pub points: u64,
     /// How a case counts that is not decided.
     pub undecided: Undecided,
+    /// How many steps the run of a seed has at most.
+    pub most: usize,
 }
 
 /// The text for the student of a submission, which was judged by these cases: a verdict a case, what shows it, and how to look
@@ -40,11 +46,11 @@ pub fn feedback_of(
     push_verdicts(alloc, &mut out, file.undecided, row)?;
     if row.cases.is_empty() {
         out.push_str("All messages: mta_lab check ")?;
-        push_plain(&mut out, name)?;
+        push_file_word(&mut out, name)?;
         out.push_str("\n")?;
     }
     for (case, given) in row.cases.iter().zip(cases.iter()) {
-        push_look(alloc, &mut out, name, case, given)?;
+        push_look(alloc, &mut out, file, case, given)?;
     }
     if let Some(page) = file.page {
         out.push_str("\nThe page of a run: ")?;
@@ -104,7 +110,7 @@ fn push_verdict(
 fn push_look(
     alloc: Global,
     out: &mut String,
-    name: &str,
+    file: StudentFile<'_>,
     case: &CaseRow,
     given: &Case,
 ) -> Result<(), AllocError> {
@@ -126,18 +132,34 @@ fn push_look(
         )?;
         push_cells(alloc, out, &given.given)?;
     }
-    match &shown.witness {
+    push_view(alloc, out, file, &shown.witness)
+}
+
+/// Adds the call of `view` that makes a run.
+fn push_view(
+    alloc: Global,
+    out: &mut String,
+    file: StudentFile<'_>,
+    witness: &Witness,
+) -> Result<(), AllocError> {
+    let name = file_name(file.path);
+    match witness {
         Witness::None => Ok(()),
         Witness::Seed(seed) => {
             out.push_str("- mta_lab view ")?;
-            push_plain(out, name)?;
-            write!(out, " --seed {seed}\n")
+            push_file_word(out, name)?;
+            write!(out, " --seed {seed}")?;
+            if file.most != USUAL_STEPS {
+                let most = file.most;
+                write!(out, " --steps {most}")?;
+            }
+            out.push_str("\n")
         }
         Witness::Schedule(steps) => {
             out.push_str("- write these lines into run.schedule:\n    ")?;
             push_turns(alloc, out, steps, "\n    ")?;
             out.push_str("\n- mta_lab view ")?;
-            push_plain(out, name)?;
+            push_file_word(out, name)?;
             out.push_str(" run.schedule\n")
         }
     }

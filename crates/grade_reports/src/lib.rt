@@ -3,6 +3,7 @@
 
 mod case_scores;
 mod cells;
+mod command_words;
 mod feedback;
 mod gradescope_report;
 mod json_report;

@@ -122,6 +122,7 @@ impl<'a> PageFolder<'a> {
             page: row.page.as_ref().map(|page| file_name(page)),
             points: grading.form.points,
             undecided: grading.request.undecided,
+            most: grading.request.most,
         };
         let text = feedback_of(alloc, file, row, grading.cases)?;
         let path = self.path_of(alloc, folder, place, "txt")?;

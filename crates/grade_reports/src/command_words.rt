@@ -1,0 +1,93 @@
+//! Names of files in commands, as a shell takes them.
+
+use plain_text::is_hidden;
+use std::alloc::AllocError;
+
+/// How a name stands in a command.
+#[derive(Clone, Copy, Debug, PartialEq, Eq)]
+enum WordForm {
+    /// As it is.
+    Bare,
+    /// Between `'`.
+    Quoted,
+    /// In `$'..'`, with octal escapes.
+    Escaped,
+}
+
+/// Adds the name of a file as one word of a command for a shell: as it is if it has letters, digits and signs that mean nothing
+/// to a shell, else in quotes. `./` stands before one that begins with `-`, so that it is no option; `-` alone is standard
+/// input. If it has a control byte, or a character that is not seen itself, it stands in `$'..'` with octal escapes, as bash,
+/// zsh and ksh take it.
+pub(crate) fn push_file_word(out: &mut String, name: &str) -> Result<(), AllocError> {
+    let front = if name.starts_with("-") && name != "-" {
+        "./"
+    } else {
+        ""
+    };
+    match form_of(name) {
+        WordForm::Bare => {
+            out.push_str(front)?;
+            out.push_str(name)
+        }
+        WordForm::Quoted => {
+            write!(out, "'{front}")?;
+            push_quoted(out, name)?;
+            out.push_str("'")
+        }
+        WordForm::Escaped => {
+            write!(out, "$'{front}")?;
+            push_escaped(out, name)?;
+            out.push_str("'")
+        }
+    }
+}
+
+/// How a name is written.
+fn form_of(name: &str) -> WordForm {
+    if name.chars().any(|letter| is_unseen(letter)) {
+        WordForm::Escaped
+    } else if !name.is_empty() && name.bytes().all(|byte| is_bare(byte)) {
+        WordForm::Bare
+    } else {
+        WordForm::Quoted
+    }
+}
+
+/// Whether a character is a control byte, or is not seen itself.
+fn is_unseen(letter: char) -> bool {
+    letter < ' ' || letter == '\x7f' || is_hidden(letter)
+}
+
+/// Whether a byte of a word means nothing to any shell.
+fn is_bare(byte: u8) -> bool {
+    byte.is_ascii_alphanumeric()
+        || matches!(
+            byte,
+            b'_' | b'-' | b'.' | b'/' | b',' | b'+' | b'@' | b'%' | b':'
+        )
+}
+
+/// Adds what stands between `'`, where nothing but `'` ends it.
+fn push_quoted(out: &mut String, name: &str) -> Result<(), AllocError> {
+    for letter in name.chars() {
+        if letter == '\'' {
+            out.push_str("'\\''")?;
+        } else {
+            out.push(letter)?;
+        }
+    }
+    Ok(())
+}
+
+/// Adds what stands in `$'..'`: each byte that is no sign of ASCII, and `'` and `\`, by its number.
+fn push_escaped(out: &mut String, name: &str) -> Result<(), AllocError> {
+    for byte in name.bytes() {
+        let is_sign = byte.is_ascii_graphic() || byte == b' ';
+        if is_sign && byte != b'\'' && byte != b'\\' {
+            out.push(char::from(byte))?;
+        } else {
+            write!(out, "\\{byte:03o}")?;
+        }
+    }
+    Ok(())
+}
