@@ -166,7 +166,7 @@ fn judged_program<X: Threads + Sync, C: Clock, E: Write>(
         return Ok(CaseJudgement::plain(alloc, VerdictKind::Wrong, Known::NOTHING, reason));
     }
     let judgement = judged_as_asked(rt, alloc, asked, judged, console)?;
-    Ok(with_work(alloc, asked, judged, judgement)?)
+    Ok(with_work(rt, alloc, asked, judged, judgement)?)
 }
 
 /// What is known of a program by its ends and claims: by every schedule, if that is asked, else by random ones.

@@ -16,14 +16,15 @@ use image_file::Image;
 use image_machines::by_room;
 use machine::LoadFault;
 use schedule_makers::MadeEnd;
-use seed_outcomes::seeds::Seeds;
 use seed_work::rules::WorkRule;
-use seed_work::{MissedWork, first_missed_by_seeds};
+use seed_work::{MissedWork, first_missed_alone, first_missed_by_seeds};
 use std::alloc::{AllocError, Global};
+use std::thread::Threads;
 
 /// What is known of a program of which this is known by its ends and claims. If that says that it is right, or leaves it
 /// open, the run of each seed has to meet the lines about who does the work as well: the first run that does not decides.
-pub(crate) fn with_work(
+pub(crate) fn with_work<X: Threads + Sync>(
+    rt: &X,
     alloc: Global,
     asked: AskedJudging,
     judged: JudgedProgram<'_>,
@@ -42,25 +43,44 @@ pub(crate) fn with_work(
     if !is_open(judgement.kind) {
         return Ok(judgement);
     }
-    match missed_work(alloc, judged.image, judged.required.work(), asked.sampled())? {
+    match missed_work(rt, alloc, asked, judged.image, judged.required.work())? {
         Some(missed) => Ok(judged_by_work(judgement, missed)),
         None => Ok(with_seeds(judgement, asked.seeds)),
     }
 }
 
 /// Of seeds the first whose run does not meet all of these lines.
-fn missed_work(
+fn missed_work<X: Threads + Sync>(
+    rt: &X,
     alloc: Global,
+    asked: AskedJudging,
     image: &Image,
     rules: &[WorkRule],
-    seeds: Seeds,
 ) -> Result<Option<MissedWork>, AllocError>
-    ensures { IfOk result (λ found. IsWorkJudged image.now rules.now seeds found) }
+    ensures { IfOk result (λ found. IsWorkJudged image.now rules.now (seeds_of asked) found) }
 {
-    let found = by_room!(image, first_missed_by_seeds(alloc, image, rules, seeds));
+    let found = by_room!(image, missed_on::<X>(rt, alloc, asked, image, rules));
     match found {
         Ok(found) => Ok(found),
         Err(LoadFault::NoMemory | LoadFault::Streams) => Err(AllocError),
+    }
+}
+
+/// The same on machines with room for `S` streams a processor.
+fn missed_on<X: Threads + Sync, const S: usize>(
+    rt: &X,
+    alloc: Global,
+    asked: AskedJudging,
+    image: &Image,
+    rules: &[WorkRule],
+) -> Result<Option<MissedWork>, LoadFault>
+    ensures { IfOk result (λ found. IsWorkJudged image.now rules.now (seeds_of asked) found) }
+{
+    let seeds = asked.sampled();
+    if asked.is_spread {
+        first_missed_by_seeds::<X, S>(rt, alloc, image, rules, seeds)
+    } else {
+        first_missed_alone::<S>(alloc, image, rules, seeds)
     }
 }
 

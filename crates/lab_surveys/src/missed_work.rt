@@ -12,7 +12,7 @@ use search_texts::work_words;
 use seed_outcomes::SurveySeeds;
 use seed_outcomes::seeds::Seeds;
 use seed_work::rules::WorkRule;
-use seed_work::{MissedWork, first_missed_by_seeds};
+use seed_work::{MissedWork, first_missed_alone};
 use serde_json::Value;
 use std::alloc::{AllocError, Global};
 
@@ -57,7 +57,7 @@ fn missed_work(
         count: seeds.count,
         most: seeds.most,
     };
-    let found = by_room!(image, first_missed_by_seeds(alloc, image, rules, tried));
+    let found = by_room!(image, first_missed_alone(alloc, image, rules, tried));
     match found {
         Ok(found) => Ok(found),
         Err(_) => Err(AllocError),

@@ -1,5 +1,5 @@
 -- What the runs of seeds show of who does the work.
-use Rattle.std.specs.Prelude.{◌≡◌, ◌<◌, ℕ, List, Option, Some, None}
+use Rattle.std.specs.Prelude.{◌≡◌, ◌<◌, ◌+◌, ℕ, List, Option, Some, None, length, slice_get}
 use Rattle.image_file.specs.ImageValue.{ImageValue}
 use Rattle.processor.specs.declared.steps.Step.{Step}
 use Rattle.machine.specs.MachineValue.{MachineValue}
@@ -25,6 +25,19 @@ pub record IsSeedWork (image : ImageValue) (rules : List WorkRule) (fair most se
 -- the run of a seed meets all lines
 abbrev pub MeetsAll : ImageValue → List WorkRule → ℕ → ℕ → ℕ → Type 0
 MeetsAll image rules fair most seed = (end : MadeEnd) × IsSeedWork image rules fair most seed end None
+
+-- what is known of the run of a seed: the first line that it does not meet, or that it meets all
+abbrev pub IsKnownOfSeed : ImageValue → List WorkRule → ℕ → ℕ → ℕ → Option MissedWork → Type 0
+IsKnownOfSeed image rules fair most seed None = MeetsAll image rules fair most seed
+IsKnownOfSeed image rules fair most seed (Some m) =
+    (m.seed ≡ seed) × IsSeedWork image rules fair most seed m.end (Some m.rule)
+
+-- This is known of the runs of the seeds from one place to another.
+pub record AreKnownFrom (image : ImageValue) (rules : List WorkRule) (fair most first begin end : ℕ)
+    (found : List (Option MissedWork)) : Type 0 where
+  pub count : begin + length found ≡ end
+  pub each : (k : ℕ) (o : Option MissedWork) → slice_get found k ≡ Some o
+      → IsKnownOfSeed image rules fair most (seed_at first (begin + k)) o
 
 -- the runs of the seeds at the first so many places do
 abbrev pub MeetAllBefore : ImageValue → List WorkRule → ℕ → Seeds → ℕ → Type 0

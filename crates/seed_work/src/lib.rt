@@ -2,7 +2,9 @@
 //! who does the work", docs/LAB_REFERENCE.md).
 #![tactic(auto)]
 
+mod first_missed;
 mod missed_work;
 
-pub use missed_work::{MissedWork, first_missed_by_seeds};
+pub use first_missed::{first_missed_alone, first_missed_by_seeds};
+pub use missed_work::MissedWork;
 pub use work_rules as rules;

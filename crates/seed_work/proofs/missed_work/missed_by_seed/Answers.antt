@@ -15,11 +15,11 @@ returns-in-Some-clause-known g c =
         schedule = ts;
         made =
             subst
-            (λ (m : MachineValue). IsMade (rule_of_seed c.args.seed c.args.fair) m new c.args.most ts c.in_ok-made.made.end)
+            (λ (m : MachineValue). IsMade (rule_of_seed c.args.seed c.args.working.now.fair) m new c.args.working.now.most ts c.in_ok-made.made.end)
             c.in_ok-machine.ensures.is c.in_ok-made.ensures.made;
         is =
             sym c.in-Some.is ∙ c.in_ok-rule.ensures.missed
-            ∙ ap (λ us. first_missed_by c.args.image.now us c.args.rules.now) c.deref.ensures.value;
+            ∙ ap (λ us. first_missed_by c.args.working.now.image.now us c.args.working.now.rules.now) c.deref.ensures.value;
       },
     )
 
@@ -33,10 +33,10 @@ returns-clause-known g c =
         schedule = ts;
         made =
             subst
-            (λ (m : MachineValue). IsMade (rule_of_seed c.args.seed c.args.fair) m new c.args.most ts c.in_ok-made.made.end)
+            (λ (m : MachineValue). IsMade (rule_of_seed c.args.seed c.args.working.now.fair) m new c.args.working.now.most ts c.in_ok-made.made.end)
             c.in_ok-machine.ensures.is c.in_ok-made.ensures.made;
         is =
             sym c.in-None.is ∙ c.in_ok-rule.ensures.missed
-            ∙ ap (λ us. first_missed_by c.args.image.now us c.args.rules.now) c.deref.ensures.value;
+            ∙ ap (λ us. first_missed_by c.args.working.now.image.now us c.args.working.now.rules.now) c.deref.ensures.value;
       },
     )
