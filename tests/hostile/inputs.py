@@ -46,7 +46,11 @@ def verdicts(words):
 
 def swapped(tally, folder, kind, target, options, wanted):
     """Calls while something else is swapped in: only these verdicts come, and in time."""
-    path = write(folder, f"{kind}.asm", RIGHT)
+    path = os.path.join(folder, f"{kind}.asm")
+    # (what an earlier one has left there may be a FIFO, or lead elsewhere)
+    if os.path.lexists(path):
+        os.unlink(path)
+    write(folder, f"{kind}.asm", RIGHT)
     expect = write(folder, "one.expect", b"word 0 1\n")
     swapper = subprocess.Popen([sys.executable, "-c", SWAPPER, path, kind, target], stdout=subprocess.PIPE)
     swapper.stdout.readline()
