@@ -4,9 +4,10 @@ the kinds of ends, how many worlds each has, the steps of shortest schedules, wh
 which claims are broken, the verdict of `grade --explore`, each status, and how many worlds the search for ends alone looks
 at, that of the examples too. A difference is told with its seed and its program. Needs Python 3.
 
-  spaces [--programs N] [--first SEED] [--program PATH]     500 programs from seed 0 on, by the program that is built here
+  spaces [--programs N] [--first SEED] [--jobs N] [--program PATH]
 
-With PROGRAM=draft in the environment that is the draft."""
+There are 2,000 programs from seed 0 on, by the program that is built here; with PROGRAM=draft in the environment that is
+the draft."""
 
 import sys
 
@@ -50,16 +51,17 @@ def tried(seed, program):
 
 def main():
     asked = argparse.ArgumentParser(description=__doc__.partition("\n\n")[0])
-    asked.add_argument("--programs", type=int, default=500, help="how many (500)")
+    asked.add_argument("--programs", type=int, default=2000, help="how many (2000)")
     asked.add_argument("--first", type=int, default=0, help="the first seed (0)")
     asked.add_argument("--program", help="the mta_lab that is tried")
+    asked.add_argument("--jobs", type=int, default=os.cpu_count(), help="how many at a time (one a processor)")
     asked = asked.parse_args()
     asked.program = asked.program or built.path("mta_lab")
     seeds = range(asked.first, asked.first + asked.programs)
     wrong, worlds, kinds = 0, 0, collections.Counter()
-    with concurrent.futures.ProcessPoolExecutor(os.cpu_count()) as pool:
+    with concurrent.futures.ProcessPoolExecutor(asked.jobs) as pool:
         counted = pool.map(examples.differs, [asked.program] * len(examples.NAMES), examples.NAMES)
-        for seed, found, text, ends, count in pool.map(tried, seeds, [asked.program] * len(seeds)):
+        for seed, found, text, ends, count in pool.map(tried, seeds, [asked.program] * len(seeds), chunksize=5):
             kinds.update(ends)
             worlds += count
             wrong += bool(found)

@@ -4,9 +4,10 @@
 handlers and without, limits of tries, words that forward and that trap, pointers of all controls, streams that are started.
 A difference is told with its seed and its program. Needs Python 3.
 
-  sentences [--programs N] [--first SEED] [--program PATH]     2,000 programs from seed 0 on, by the program that is built here
+  sentences [--programs N] [--first SEED] [--jobs N] [--program PATH]
 
-With PROGRAM=draft in the environment that is the draft."""
+There are 2,000 programs from seed 0 on, by the program that is built here; with PROGRAM=draft in the environment that is
+the draft."""
 
 import sys
 
@@ -279,11 +280,12 @@ def main():
     asked.add_argument("--programs", type=int, default=2000, help="how many (2000)")
     asked.add_argument("--first", type=int, default=0, help="the first seed (0)")
     asked.add_argument("--program", help="the mta_lab that is tried")
+    asked.add_argument("--jobs", type=int, default=os.cpu_count(), help="how many at a time (one a processor)")
     asked = asked.parse_args()
     asked.program = asked.program or built.path("mta_lab")
     seeds = range(asked.first, asked.first + asked.programs)
     wrong, counts, steps = 0, collections.Counter(), 0
-    with concurrent.futures.ProcessPoolExecutor(os.cpu_count()) as pool:
+    with concurrent.futures.ProcessPoolExecutor(asked.jobs) as pool:
         for seed, found, text, said in pool.map(tried, seeds, [asked.program] * len(seeds), chunksize=20):
             steps += len(said)
             for kind in KINDS:

@@ -4,9 +4,10 @@
 says of a word has to hold in each step that a stream takes there, in any schedule: that it traps, waits, asks no code, has
 this pointer, is never reached, or never leaves its loop. A difference is told with its seed and its program. Needs Python 3.
 
-  slips [--programs N] [--first SEED] [--program PATH]     2,000 programs from seed 0 on, by the program that is built here
+  slips [--programs N] [--first SEED] [--jobs N] [--program PATH]
 
-With PROGRAM=draft in the environment that is the draft."""
+There are 2,000 programs from seed 0 on, by the program that is built here; with PROGRAM=draft in the environment that is
+the draft."""
 
 import sys
 
@@ -204,11 +205,12 @@ def main():
     asked.add_argument("--programs", type=int, default=2000, help="how many (2000)")
     asked.add_argument("--first", type=int, default=0, help="the first seed (0)")
     asked.add_argument("--program", help="the mta_lab that is tried")
+    asked.add_argument("--jobs", type=int, default=os.cpu_count(), help="how many at a time (one a processor)")
     asked = asked.parse_args()
     asked.program = asked.program or built.path("mta_lab")
     seeds = range(asked.first, asked.first + asked.programs)
     wrong, waiting, named, counts = 0, 0, 0, collections.Counter()
-    with concurrent.futures.ProcessPoolExecutor(os.cpu_count()) as pool:
+    with concurrent.futures.ProcessPoolExecutor(asked.jobs) as pool:
         for seed, found, text, told, waits, names in pool.map(tried, seeds, [asked.program] * len(seeds), chunksize=20):
             counts.update(told)
             waiting, named = waiting + waits, named + names
