@@ -1,5 +1,5 @@
 """What `--memory`, `--seconds` and the number of messages bound: all that a process takes, its machines too, all searches of
-`grade` together, claims after a search, and files of a million bad lines."""
+`grade` together, claims after a search, and files of a million bad lines. And what writing over many files takes."""
 
 import os
 
@@ -13,6 +13,8 @@ MORE, LATE = 1.2, 1.5
 # the most megabytes without --memory
 USUAL = 2000
 BAD_LINES = 1_000_000
+# how many files are written over
+FILES = 2000
 
 
 def lab(*words, **how):
@@ -100,6 +102,21 @@ def of_messages(tally, folder):
         tally.check(f"{name} takes {ended.seconds:.1f} s", ended.seconds <= 6)
 
 
+def of_files(tally, folder):
+    """Texts for a class that are written over those of an earlier call take as long as those, and little more: no file is
+    compared with each submission by asking the system."""
+    expected = write(folder, "one.expect", b"word 0 1\n")
+    texts, room = os.path.join(folder, "texts"), os.path.join(folder, "class")
+    os.mkdir(room)
+    paths = [write(room, f"{number}.asm", b" .slim 1\n .entry 0\n QUIT\n .data 1\n") for number in range(FILES)]
+    first, second = (lab("grade", "--expect", expected, "--seeds", "1", "--jobs", "1", "--feedback", texts, *paths)
+                     for _ in range(2))
+    tally.runs += 2
+    tally.check(f"{FILES} texts: {first}, {second}", first.is_done() and second.is_done() and len(os.listdir(texts)) == FILES)
+    tally.check(f"{FILES} texts over others take {second.seconds:.1f} s, and new ones {first.seconds:.1f}",
+                second.seconds <= 2 * first.seconds + 1)
+
+
 def part(_, folder):
     """All of them."""
     tally = Tally()
@@ -107,4 +124,5 @@ def part(_, folder):
     of_grade(tally, folder)
     of_time(tally, folder)
     of_messages(tally, folder)
+    of_files(tally, folder)
     return tally

@@ -105,7 +105,7 @@ impl<F: Files, R: Read> Inputs<'_, F, R> {
     /// over.
     pub fn reserve(&mut self, alloc: Global, path: &str) -> Result<(), AllocError> {
         match self.files.metadata(path) {
-            Ok(metadata) => self.used.remember(alloc, path, &metadata),
+            Ok(metadata) => self.used.remember(alloc, self.files, path, &metadata),
             Err(_) => Ok(()),
         }
     }

@@ -1,7 +1,7 @@
 //! A file to whose end whole lines are added.
 
 use crate::identities::FileIdentity;
-use crate::used_files::UsedFiles;
+use crate::used_files::{FoundBy, UsedFiles};
 use crate::write_faults::WriteFault;
 use crate::writing::refuse_used;
 use std::alloc::Global;
@@ -17,7 +17,7 @@ pub fn open_to_append<F: Files>(
     path: &str,
 ) -> Result<F::File, WriteFault> {
     let found = files.metadata(path)?;
-    refuse_used(alloc, files, used, &found)?;
+    refuse_used(alloc, files, used, FoundBy::AnyPath, &found)?;
     if !found.is_file() {
         return Err(WriteFault::NotRegular);
     }

@@ -15,6 +15,11 @@ pub(crate) fn folder_of(path: &str) -> &str {
     }
 }
 
+/// The name at the end of a path, without its folder.
+pub(crate) fn name_in_folder(path: &str) -> &str {
+    path.get(folder_of(path).len()..).unwrap_or(path)
+}
+
 /// The path itself where it is no symbolic link, else the one that it leads to, over all links on the way. Nothing needs
 /// to stand there.
 pub(crate) fn end_of_links<F: Files>(

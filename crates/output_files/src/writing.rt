@@ -4,7 +4,7 @@ use crate::identities::FileIdentity;
 use crate::making::make_whole;
 use crate::places::end_of_links;
 use crate::replacing::{open_old, replace_content};
-use crate::used_files::UsedFiles;
+use crate::used_files::{FoundBy, UsedFiles};
 use crate::write_faults::WriteFault;
 use std::alloc::Global;
 use std::fs::{Metadata, OpenFile, OpenOptions};
@@ -115,7 +115,7 @@ fn write_over<F: Files>(
     output: Output<'_>,
     old: &Metadata,
 ) -> Result<Attempt, WriteFault> {
-    refuse_used(alloc, files, used, old)?;
+    refuse_used(alloc, files, used, found_by(output, old), old)?;
     if !old.is_file() {
         write_to_special(files, output, old)?;
         return Ok(Attempt::Done);
@@ -140,6 +140,14 @@ fn write_over<F: Files>(
     Ok(Attempt::Done)
 }
 
+/// How the file of an output was found, of which the system says this.
+fn found_by<'a>(output: Output<'a>, old: &Metadata) -> FoundBy<'a> {
+    match output.origin {
+        PathOrigin::Derived if old.nlink() == 1 => FoundBy::OnlyName(output.path),
+        PathOrigin::Derived | PathOrigin::Named => FoundBy::AnyPath,
+    }
+}
+
 /// Writes to what is no regular file, if the user named it, and it is not to be replaced.
 fn write_to_special<F: Files>(
     files: &F,
@@ -157,17 +165,18 @@ fn write_to_special<F: Files>(
     }
 }
 
-/// A fault where this file is one that the run uses.
+/// A fault where this file, which was found so, is one that the run uses.
 pub(crate) fn refuse_used<F: Files>(
     alloc: Global,
     files: &F,
     used: &UsedFiles,
+    found: FoundBy<'_>,
     old: &Metadata,
 ) -> Result<(), WriteFault> {
     let Some(identity) = FileIdentity::of(old) else {
         return Ok(());
     };
-    match used.name_of(files, identity) {
+    match used.name_of(files, found, identity) {
         Some(name) => Err(WriteFault::InUse(String::from_str(alloc, name)?)),
         None => Ok(()),
     }
