@@ -40,6 +40,8 @@ ADD:    ADD r1, r1, 1
 LTU:    QUIT
 """
 
+MARK = "\ufeff"
+
 
 def paths():
     """The programs of the repository."""
@@ -130,6 +132,33 @@ def line_ends():
             edits = session.at("rename", 5, 1, newName="once")["changes"][URI]
             made = languages.edited(TEXT.replace("\n", end), edits)
             yield f"{end!r} renamed", TEXT.replace("again", "once").replace("\n", end), made
+
+
+@checks.others("language/mark")
+def mark():
+    """A text that begins with a byte order mark: check's warning of it comes too, and the mark is one unit of the first line."""
+    text = "again:  QUITE\n        SKIP ALWAYS, 0, again\n        .entry again\n        .data 0\n"
+    with client(MARK + text) as session:
+        found = session.diagnostics()
+        warning, *rest = found
+        yield "the warning", ("106", 2, "a byte order mark stands before the text"), (
+            warning["code"], warning["severity"], warning["message"].partition("\n")[0])
+        yield "the others", [moved(it) for it in wanted(text)], rest
+        yield "as many as check has", len(lab("check", "--json", "-", given=(MARK + text).encode()).out.splitlines()), len(found)
+        label = {side: {"line": 0, "character": at} for side, at in (("start", 1), ("end", 6))}
+        yield "a label of the first line", label, session.at("definition", 1, 26)["range"]
+        edits = session.at("rename", 0, 1, newName="once")["changes"][URI]
+        yield "another name", MARK + text.replace("again", "once"), languages.edited(MARK + text, edits)
+        loose = text.replace("QUITE", " QUIT")
+        session.changes(MARK + loose)
+        edits = session.of("formatting", options={"tabSize": 8, "insertSpaces": True})
+        yield "the layout", MARK + text.replace("QUITE", "QUIT"), languages.edited(MARK + loose, edits)
+
+
+def moved(diagnostic):
+    """A diagnostic of the same text without the mark: on the first line all stands a unit further right."""
+    return {**diagnostic, "range": {side: {**place, "character": place["character"] + (place["line"] == 0)}
+                                    for side, place in diagnostic["range"].items()}}
 
 
 def at(word, line):

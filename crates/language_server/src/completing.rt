@@ -97,6 +97,7 @@ fn begun<'t>(alloc: Global, document: &'t Document, place: LinePlace) -> Items<'
         number: place.line.number,
         start: 0,
         bytes: &[],
+        mark: 0,
     };
     Items {
         json,

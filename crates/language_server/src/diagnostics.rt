@@ -16,8 +16,8 @@ const UNREACHED: u8 = 101;
 
 /// The parameters that tell what `check` says of a text.
 pub(crate) fn diagnostics_of(alloc: Global, document: &Document) -> Result<Json, AllocError> {
-    let bytes = Vec::from_slice(alloc, &document.text)?;
-    let messages = source_messages(alloc, &SourceText::of(alloc, bytes)?)?;
+    let written = document.as_written(alloc)?;
+    let messages = source_messages(alloc, &SourceText::of(alloc, written)?)?;
     let mut json = begun(alloc, document.uri.as_str(), document.version);
     for message in messages.iter().take(MOST_SENT) {
         put_message(alloc, &mut json, document, message)?;
@@ -50,6 +50,7 @@ pub(crate) fn not_kept(alloc: Global, uri: &str, version: Option<i64>) -> Result
         number: 0,
         start: 0,
         bytes: &[],
+        mark: 0,
     };
     put_warning(&mut json, Some(line), words.as_str());
     json.close_list();
@@ -82,6 +83,7 @@ fn put_message(
         number: message.line.saturating_sub(1),
         start: 0,
         bytes: &[],
+        mark: 0,
     };
     let line = document.line(empty.number).unwrap_or(empty);
     let start = message.column.saturating_sub(1);

@@ -19,8 +19,10 @@ pub(crate) struct Document {
     pub uri: String,
     /// The client's number of what it is now.
     pub version: Option<i64>,
-    /// Its bytes. Each line ends with LF.
+    /// Its bytes, without the byte order mark that it may begin with. Each line ends with LF.
     pub text: Vec<u8>,
+    /// Whether it begins with the mark.
+    pub has_mark: bool,
     /// The same as the assembler reads it: a comment has a question mark for each byte that is not ASCII.
     pub ascii: Vec<u8>,
     /// Whether its diagnostics are still to be sent.
@@ -46,18 +48,29 @@ impl Document {
         text: &str,
     ) -> Result<Document, AllocError> {
         let bytes = text.as_bytes();
+        let has_mark = bytes.starts_with(BYTE_ORDER_MARK);
+        let mark = if has_mark { 1 } else { 0 };
         let bytes = bytes.strip_prefix(BYTE_ORDER_MARK).unwrap_or(bytes);
         let text = with_line_feeds(alloc, bytes)?;
         let ascii = ascii_comments(alloc, &text)?;
-        let starts = LineStarts::of(alloc, &text)?;
+        let starts = LineStarts::of(alloc, &text, mark)?;
         Ok(Document {
             uri: String::from_str(alloc, uri)?,
             version,
             text,
+            has_mark,
             ascii,
             is_due: true,
             starts,
         })
+    }
+
+    /// Its bytes, with the mark that it may begin with.
+    pub fn as_written(&self, alloc: Global) -> Result<Vec<u8>, AllocError> {
+        let mark: &[u8] = if self.has_mark { BYTE_ORDER_MARK } else { &[] };
+        let mut bytes = Vec::from_slice(alloc, mark)?;
+        bytes.extend_from_slice(&self.text)?;
+        Ok(bytes)
     }
 
     /// A line by its number, from 0, as it was written.
@@ -76,7 +89,10 @@ impl Document {
         let line = self.starts.line(&self.ascii, position.line)?;
         Some(LinePlace {
             line,
-            column: byte_at(written.bytes, position.character),
+            column: byte_at(
+                written.bytes,
+                position.character.saturating_sub(written.mark),
+            ),
         })
     }
 }

@@ -11,24 +11,28 @@ pub(crate) struct DocumentLine<'t> {
     pub start: usize,
     /// Its bytes, without its end.
     pub bytes: &'t [u8],
+    /// How many units of UTF-16 the client counts before these bytes: a byte order mark is one.
+    pub mark: usize,
 }
 
 /// How many bytes of a text stand before each of its lines.
 #[derive(Drop)]
 pub(crate) struct LineStarts {
     starts: Vec<usize>,
+    /// How many units of UTF-16 the client counts before the first line.
+    mark: usize,
 }
 
 impl LineStarts {
-    /// Those of a text.
-    pub fn of(alloc: Global, text: &[u8]) -> Result<LineStarts, AllocError> {
+    /// Those of a text, before whose first line the client has so many units of UTF-16.
+    pub fn of(alloc: Global, text: &[u8], mark: usize) -> Result<LineStarts, AllocError> {
         let mut starts = Vec::new(alloc);
         let mut start: usize = 0;
         for line in text.split(|byte| *byte == b'\n') {
             starts.push(start)?;
             start = start.saturating_add(line.len()).saturating_add(1);
         }
-        Ok(LineStarts { starts })
+        Ok(LineStarts { starts, mark })
     }
 
     /// The line of a number; None where the text has fewer.
@@ -42,6 +46,7 @@ impl LineStarts {
             number,
             start,
             bytes: text.get(start..end)?,
+            mark: if number == 0 { self.mark } else { 0 },
         })
     }
 

@@ -20,7 +20,8 @@ fn put_position(json: &mut Json, name: &str, line: DocumentLine, column: usize) 
     json.key(name);
     json.open();
     json.number_of("line", line.number as u64);
-    json.number_of("character", units_before(line.bytes, column) as u64);
+    let units = units_before(line.bytes, column).saturating_add(line.mark);
+    json.number_of("character", units as u64);
     json.close();
 }
 
