@@ -158,6 +158,58 @@ def pages_of_ends(words, wished):
     return wanted, {name: (steps_in(run), run.get("expected"), run.get("missed")) for name, run in got.items()}
 
 
+# a stream that counts down from 50,000, in 100,002 steps; and one that does so only where it finds a word empty of its 1,
+# so that it takes 4 steps before and 3 behind, and the other stream 3
+COUNTS = " .slim 1\n .entry go\n .data 0\ngo: LIT r2, 50000\nmore: SUB.T r2, r2, 1\n SKIP NE, 0, more\n QUIT\n"
+MAY_COUNT = """ .slim 1
+ .entry wait
+ .entry set
+ .data 0
+ .data 0
+wait: LOAD.N r1, r0, 0
+ SUB.T r0, r1, 1
+ SKIP EQ, 0, done
+ LIT r2, 50000
+more: SUB.T r2, r2, 1
+ SKIP NE, 0, more
+ LIT r3, 7
+ STORE.N r3, r0, 1
+done: QUIT
+set: LIT r1, 1
+ STORE.N r1, r0, 0
+ QUIT
+"""
+TOO_LONG = "mta_lab: warning: made/{}: not written: a run of {} steps, and no more than 100000 are shown\n"
+
+
+@checks.others("pages/left_out")
+def left_out():
+    """A file that can't be written costs itself alone: the ends and the other files are as ever. That a run is too long for a
+    page is a warning, unless no page is written."""
+    yield "one run of two is too long", lambda: (
+        (0, True, TOO_LONG.format("2_finished.html", 100_010), ["1_finished.html"]), made_by(MAY_COUNT, "--pages"))
+    yield "each run is too long", lambda: (
+        (1, True, TOO_LONG.format("1_finished.html", 100_002) + "mta_lab: made: no page is written\n", []),
+        made_by(COUNTS, "--pages"))
+    racing = tool.read(os.path.join(EXAMPLES, "grading/submissions/racing.asm")).decode()
+    for option, first, second in (("--pages", "1_finished.html", "2_finished.html"), ("--keep", "1.schedule", "2.schedule")):
+        yield f"a folder in the place of {first}", lambda option=option, first=first, second=second: (
+            (1, True, f"mta_lab: made/{first}: not written: it is not a regular file\n", [first, second]),
+            made_by(racing, option, first))
+
+
+def made_by(text, option, taken=None):
+    """The status of a search that writes files into a folder, in which one name may be taken; whether it prints what it does
+    without them; what it says; and what is in the folder then."""
+    with tempfile.TemporaryDirectory(prefix="mta-case-") as folder:
+        tool.write(os.path.join(folder, "p.asm"), text.encode())
+        if taken:
+            os.makedirs(os.path.join(folder, "made", taken))
+        printed = lab("explore", "p.asm", folder=folder).out
+        ended = lab("explore", "p.asm", option, "made", folder=folder)
+        return ended.status, ended.out == printed, ended.err.decode(), sorted(os.listdir(os.path.join(folder, "made")))
+
+
 def line_of_the_whole(told):
     """The first line that the program as a whole does not meet, whatever the end; None where it meets all."""
     lines = [value["broken"] for value in told if value["object"] == "rule"]

@@ -1,6 +1,7 @@
 //! The folders that `explore` writes into: the schedule to each end, and the page of its run.
 
 use crate::end_pages::FoundProgram;
+use crate::written_files::WrittenFiles;
 use command_parts::{Inputs, LabFault};
 use lab_requests::ExploreRequest;
 use space_graphs::ends_of_space::SpaceEnd;
@@ -37,14 +38,15 @@ pub(crate) fn write_folders<F: Files, R: Read>(
     inputs: &Inputs<'_, F, R>,
     request: &ExploreRequest,
     made: Result<(), LabFault>,
-    told: FoundProgram<'_>,
+    found: FoundProgram<'_>,
+    written: &mut WrittenFiles,
 ) -> Result<(), LabFault> {
     made?;
     if let Some(folder) = request.keep {
-        keep_schedules(alloc, inputs, folder, &told.found.ends)?;
+        keep_schedules(alloc, inputs, folder, &found.found.ends, written)?;
     }
     match request.pages {
-        Some(folder) => told.write_pages(alloc, inputs, folder),
+        Some(folder) => found.write_pages(alloc, inputs, folder, written),
         None => Ok(()),
     }
 }
@@ -55,12 +57,13 @@ fn keep_schedules<F: Files, R: Read>(
     inputs: &Inputs<'_, F, R>,
     folder: &str,
     ends: &[SpaceEnd],
+    written: &mut WrittenFiles,
 ) -> Result<(), LabFault> {
     for (index, end) in ends.iter().enumerate() {
         let number = index.saturating_add(1);
         let path = format!(in alloc; "{folder}/{number}.schedule")?;
         let text = write_schedule(alloc, &end.schedule)?;
-        inputs.write_derived(alloc, &path, text.as_bytes())?;
+        written.keep(inputs.write_derived(alloc, &path, text.as_bytes()))?;
     }
     Ok(())
 }

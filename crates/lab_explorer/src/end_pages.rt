@@ -1,5 +1,6 @@
 //! The pages of the runs that lead to ends.
 
+use crate::written_files::WrittenFiles;
 use command_parts::{Inputs, LabFault, Program};
 use expectation_files::{NEVER_BUSY, Requirements, WrittenLine};
 use plain_text::stem_of;
@@ -27,25 +28,29 @@ pub(crate) struct FoundProgram<'a> {
 
 impl FoundProgram<'_> {
     /// Writes the page of the schedule to each end into a folder, as `1_deadlock.html` and so on: by the number of the end,
-    /// and its kind. A fault at the first that has more steps than a page.
+    /// and its kind. One that can't be written costs that page alone.
     pub(crate) fn write_pages<F: Files, R: Read>(
         self,
         alloc: Global,
         inputs: &Inputs<'_, F, R>,
         folder: &str,
+        written: &mut WrittenFiles,
     ) -> Result<(), LabFault> {
+        let mut count: usize = 0;
         for (index, end) in self.found.ends.iter().enumerate() {
             let number = index.saturating_add(1);
             let kind = end.kind.json_name();
             let path = format!(in alloc; "{folder}/{number}_{kind}.html")?;
-            let steps = end.schedule.len();
-            if steps > MOST_STEPS {
-                return Err(LabFault::Words(format!(in alloc;
-                    "{path}: not written: a run of {steps} steps, and no more than {MOST_STEPS} are shown"
-                )?));
+            if end.schedule.len() > MOST_STEPS {
+                written.note_long_run(&path, end.schedule.len())?;
+                continue;
             }
             let page = self.page_of_end(alloc, number, end)?;
-            inputs.write_derived(alloc, &path, page.as_bytes())?;
+            written.keep(inputs.write_derived(alloc, &path, page.as_bytes()))?;
+            count = count.saturating_add(1);
+        }
+        if count == 0 && !self.found.ends.is_empty() {
+            written.keep(Err(no_page(alloc, folder)?))?;
         }
         Ok(())
     }
@@ -146,6 +151,11 @@ impl FoundProgram<'_> {
         }
         None
     }
+}
+
+/// That a folder gets no page: each run has too many steps.
+fn no_page(alloc: Global, folder: &str) -> Result<LabFault, AllocError> {
+    Ok(LabFault::Words(format!(in alloc; "{folder}: no page is written")?))
 }
 
 /// The words of a line.

@@ -4,6 +4,7 @@ use crate::end_folders::{make_folders, write_folders};
 use crate::end_pages::FoundProgram;
 use crate::explored_text::answer_of;
 use crate::graphs::{GraphedSearch, write_graph};
+use crate::written_files::WrittenFiles;
 use command_parts::{CommandAnswer, Inputs, LabFault, Program, read_program, read_steps, style_of};
 use expectation_files::Requirements;
 use expectation_messages::requirements_of;
@@ -74,7 +75,8 @@ fn show_ends<C: Clock, F: Files, R: Read, E: Write>(
         required,
         found: &found,
     };
-    let kept = write_folders(alloc, inputs, request, made, shown);
+    let mut written = WrittenFiles::new(alloc);
+    let kept = write_folders(alloc, inputs, request, made, shown, &mut written);
     let graphed = GraphedSearch {
         found: &found,
         required,
@@ -82,7 +84,9 @@ fn show_ends<C: Clock, F: Files, R: Read, E: Write>(
         image,
     };
     let drawn = write_graph(alloc, inputs, request.dot, graphed);
-    answer.fault = kept.and(drawn).err();
+    let WrittenFiles { notes, fault } = written;
+    answer.errors = notes;
+    answer.fault = fault.or(kept.and(drawn).err());
     Ok(answer)
 }
 

@@ -7,5 +7,6 @@ mod explored_objects;
 mod explored_text;
 mod exploring;
 mod graphs;
+mod written_files;
 
 pub use exploring::show_every_end;
