@@ -10,7 +10,7 @@ use crate::parsers::lab_parser;
 use crate::run_commands::{
     compare_of, debug_of, misfit_of, page_of, picture_of, schedule_of, view_of,
 };
-use crate::standard_inputs::doubled_input;
+use crate::standard_inputs::misused_input;
 use clap::error::ErrorKind;
 use clap::{ArgMatches, Error};
 use lab_requests::{Colours, LabCall, LabCommand};
@@ -45,7 +45,7 @@ pub fn read_lab_command<'a, S: AsStr>(
         return Err(refused(alloc, words)?);
     }
     let command = asked_of(alloc, command, found)?;
-    match doubled_input(&command) {
+    match misused_input(&command) {
         Some(words) => Err(refused(alloc, words)?),
         None => Ok(LabCall {
             command,

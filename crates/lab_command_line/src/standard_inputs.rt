@@ -1,20 +1,27 @@
-//! Standard input as a file that a command reads: it can be read once.
+//! Standard input as a file that a command reads: it can be read once, and has no name.
 
 use lab_requests::{CheckRequest, GradeCases, GradeRequest, LabCommand, RunChoice};
 
 /// The paths by which standard input is named.
 const STANDARD_INPUTS: [&str; 4] = ["-", "/dev/stdin", "/dev/fd/0", "/proc/self/fd/0"];
 
-/// Why a command can't be done, if it would read standard input twice.
-pub(crate) fn doubled_input(command: &LabCommand) -> Option<&'static str> {
+/// Why a command can't be done with standard input as it is named: it would read it twice, or call a file by its name.
+pub(crate) fn misused_input(command: &LabCommand) -> Option<&'static str> {
     let count = standard_inputs(command);
-    if reads_lines(command) && count > 0 {
+    if makes_its_image(command) && count > 0 {
+        Some("standard input has no name to call the image by: --out IMAGE says where it goes")
+    } else if reads_lines(command) && count > 0 {
         Some("debug reads its lines from standard input, so - can be none of its files")
     } else if count > 1 {
         Some("standard input, -, is named twice, and can be read once")
     } else {
         None
     }
+}
+
+/// Whether a command makes an image that is called as its source.
+fn makes_its_image(command: &LabCommand) -> bool {
+    matches!(command, LabCommand::Assemble { image: None, .. })
 }
 
 /// Whether a command reads lines from standard input, beside its files.
