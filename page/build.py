@@ -53,7 +53,7 @@ PAGES = {
                 lambda run: run["name"] + ", " + run["schedule"]),
     "pair": Page("replay_page", "pair", "../page.html.template", ["../base.css", "../page.css", "pair.css"], "RUN",
                  lambda pair: pair["name"] + ", " + pair["schedule"]),
-    "play": Page("schedule_page", "play", "play.html.template", ["../base.css", "play.css"], "GRAPH",
+    "play": Page("schedule_page", "play", "play.html.template", ["../base.css", "play.css", "lecture.css"], "GRAPH",
                  lambda graph: graph["name"] + ", you are the scheduler"),
 }
 

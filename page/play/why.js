@@ -9,7 +9,7 @@ const isDone = (w, k) => canStep(w, k) && recordOf(w, k)[0] === "done";
 /** The streams whose step from a state puts an end out of reach that can still come. */
 const losing = (w, e) => ableIn(w).filter((k) => toGo[e][leads[k][w]] < 0);
 
-/** Whether on some way from state w to end e a step is done that `meets` names, and none before it that `bars` names. */
+/** Whether some way from state w to end e has a step that `meets` names, and none before it that `bars` names. */
 function someWay(w, e, bars, meets) {
   const seen = new Uint8Array(N);
   const queue = [w];
@@ -63,7 +63,8 @@ function orderParts(w, e) {
   return [];
 }
 
-const neverParts = ([k, pc]) => [` On no way to your goal does ${names[k]} ${verbs(pc)[0]} (`, code(stepName(pc)), ")."];
+const neverParts = ([k, pc]) =>
+  [` On no way to your goal does ${names[k]} ${verbs(pc)[0]} (`, code(stepName(pc)), ")."];
 const firstParts = ([i, p], [j, q]) => [` ${names[i]} has to ${verbs(p)[0]} (`, code(stepName(p)),
   `) before ${names[j]} ${verbs(q)[1]} (`, code(stepName(q)), ")."];
 
@@ -118,7 +119,7 @@ function skip() {
     ` ${cut(namesOf(streams), SKIPPED_SHOWN)}. ${upper(theirs)} nothing of what can still come.`]);
 }
 
-/** The button that skips, where no choice changes what can come. Where it goes, what follows in the page has the focus. */
+/** The button that skips, where no choice changes what can come. If it goes, what follows in the page has the focus. */
 function showSkip() {
   const streams = isAheadShown() ? quietWay(here()) : [];
   const hadButton = document.activeElement === byId("skip-on");

@@ -13,6 +13,7 @@ mod keys_script;
 mod kinds_script;
 mod lanes_script;
 mod lecture_script;
+mod lecture_style;
 mod map_script;
 mod naming_script;
 mod panes_script;
@@ -43,6 +44,7 @@ pub(crate) fn push_middle(page: &mut String) -> Result<(), AllocError> {
     page.push_str(template_2::TEXT)?;
     push_base_style(page)?;
     page.push_str(play_style::TEXT)?;
+    page.push_str(lecture_style::TEXT)?;
     page.push_str(template_3::TEXT)
 }
 

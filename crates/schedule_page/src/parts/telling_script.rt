@@ -113,8 +113,8 @@ function shortestFindings(end, isOwn) {
     const [kind, ...rest] = finding.replace(/\s{2,}.*$/, "").split(": ");
     const counted = begunSteps ? ` These steps count from the program’s start, ${steps(begunSteps)} before yours.`
       : "";
-    return html("li", {}, isOwn ? "" : `By a shortest schedule${begins} to this end: `, html("b", { class: "lost" }, kind),
-      `: ${rest.join(": ")}.${counted}`);
+    const how = isOwn ? "" : `By a shortest schedule${begins} to this end: `;
+    return html("li", {}, how, html("b", { class: "lost" }, kind), `: ${rest.join(": ")}.${counted}`);
   });
 }
 

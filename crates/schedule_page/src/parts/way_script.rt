@@ -28,7 +28,7 @@ function turnedIn(a, n) {
   return m;
 }
 
-/** Whether what can still come is shown: as the reader wants it, and where a game has come to an end; never in a vote. */
+/** Whether what can still come is shown: as the reader wants it, and where a game is at an end; never in a vote. */
 const isAheadShown = () => !view.vote && (view.ahead || (view.goal !== null && endHere() !== undefined));
 
 /** The end that is reached here: that of the goal, if it is one of them. */
