@@ -1,0 +1,121 @@
+//! Lines of a source text, and what stands on them.
+
+use crate::pieces::{is_blank, trimmed};
+use fault_messages::Token;
+use std::alloc::{AllocError, Global};
+use text_parts::cut;
+
+/// The most operations of a word that are looked at.
+const MOST_OPERATIONS: usize = 8;
+
+/// Where the lines of a text begin.
+#[derive(Drop)]
+pub(crate) struct LineStarts<'t> {
+    text: &'t [u8],
+    starts: Vec<usize>,
+}
+
+impl<'t> LineStarts<'t> {
+    /// Those of a text.
+    pub fn of(alloc: Global, text: &'t [u8]) -> Result<LineStarts<'t>, AllocError> {
+        let mut starts = Vec::new(alloc);
+        let mut start: usize = 0;
+        for line in text.split(|byte| *byte == b'\n') {
+            starts.push(start)?;
+            start = start.saturating_add(line.len()).saturating_add(1);
+        }
+        Ok(LineStarts { text, starts })
+    }
+
+    /// The text.
+    pub fn text(&self) -> &'t [u8] {
+        self.text
+    }
+
+    /// The line of a number, from 1; None where the text has fewer.
+    pub fn line(&self, number: usize) -> Option<SourceLine<'t>> {
+        let start = self.starts.get(number.checked_sub(1)?)?;
+        Some(SourceLine::behind(self.text, *start))
+    }
+
+    /// How many lines there are.
+    pub fn count(&self) -> usize {
+        self.starts.len()
+    }
+}
+
+/// A line of a source text.
+#[derive(Clone, Copy)]
+pub(crate) struct SourceLine<'t> {
+    /// How many bytes of the text stand before it.
+    pub start: usize,
+    /// All of it, without its end.
+    pub whole: Token<'t>,
+}
+
+impl<'t> SourceLine<'t> {
+    /// The line that begins behind so many bytes of a text.
+    pub fn behind(text: &'t [u8], start: usize) -> SourceLine<'t> {
+        let rest = text.get(start..).unwrap_or(&[]);
+        let (line, _) = cut(rest, b'\n');
+        SourceLine {
+            start,
+            whole: Token::of_line(line),
+        }
+    }
+
+    /// How many bytes of the text stand before the line's end.
+    pub fn end(&self) -> usize {
+        self.start.saturating_add(self.whole.bytes.len())
+    }
+
+    /// What stands before the colon of its label; None where it has no colon before a comment.
+    pub fn label(&self) -> Option<Token<'t>> {
+        match self.whole.cut(b';').0.cut(b':') {
+            (label, Some(_)) => Some(label),
+            (_, None) => None,
+        }
+    }
+
+    /// What stands behind its label and before its comment, without blanks at its ends.
+    pub fn body(&self) -> Token<'t> {
+        let (code, _) = self.whole.cut(b';');
+        let (front, behind) = code.cut(b':');
+        trimmed(behind.unwrap_or(front))
+    }
+
+    /// Its body without the lookahead that it may begin with.
+    pub fn statement(&self) -> Token<'t> {
+        let body = self.body();
+        if !body.begins(b'@') {
+            return body;
+        }
+        match body.bytes.iter().position(|byte| is_blank(*byte)) {
+            Some(place) => trimmed(body.behind(place)),
+            None => body,
+        }
+    }
+
+    /// The operation of its statement, between two bars, at a place of the line.
+    pub fn operation_at(&self, column: usize) -> Token<'t> {
+        let mut rest = self.statement();
+        for _ in 0..MOST_OPERATIONS {
+            match rest.cut(b'|') {
+                (_, Some(following)) if following.start <= column => rest = following,
+                (operation, _) => return trimmed(operation),
+            }
+        }
+        trimmed(rest)
+    }
+
+    /// What stands before the last bar before a place, and behind it, without blanks at the bar; None where there is no bar.
+    pub fn around_bar(&self, column: usize) -> Option<(Token<'t>, Token<'t>)> {
+        let statement = self.statement();
+        let before = statement.before(column.saturating_sub(statement.start));
+        let bar = before.bytes.iter().rposition(|byte| *byte == b'|')?;
+        Some((
+            trimmed(statement.before(bar)),
+            trimmed(statement.behind(bar.saturating_add(1))),
+        ))
+    }
+}
