@@ -1,5 +1,5 @@
-"""Slips of one line, each with what `check` has to say of it and how to mend it; and that it says nothing of programs that
-are right, those on the pages of `explain` among them."""
+"""Slips of one line, each with what `check` has to say of it, how to mend it, and the text after its first fix; and that it
+says nothing of programs that are right, those on the pages of `explain` among them."""
 
 import glob
 import json
@@ -55,11 +55,27 @@ take: LOAD.S r3, r0, 2
 
 def program(base, changes):
     """The base's text, with each `NUMBER TEXT` of the changes, apart by ` / `, in place of a line."""
-    lines = dict(enumerate(BASES[base], 1))
+    return changed(BASES[base], changes)
+
+
+def changed(lines, changes):
+    """A text of lines, with each `NUMBER TEXT` of the changes in place of a line, or behind the last one."""
+    lines = dict(enumerate(lines, 1))
     for change in changes.split(" / ") if changes else []:
         number, _, text = change.partition(" ")
         lines[int(number)] = text
     return unescaped("\n".join(lines.values()) + "\n")
+
+
+def mended(text, fix):
+    """A text after the edits of a fix, which are in their order."""
+    starts = [0]
+    for line in text.split(b"\n"):
+        starts.append(starts[-1] + len(line) + 1)
+    for edit in reversed(fix["edits"]):
+        start = starts[edit["line"] - 1] + edit["column"] - 1
+        text = text[:start] + edit["text"].encode() + text[start + edit["width"]:]
+    return text
 
 
 def said(text):
@@ -78,10 +94,15 @@ def said(text):
 
 @checks.each("lab_check/slips.tsv")
 def slips(fields):
-    """The message that has to be among those about a program with the slip."""
-    _, base, changes, words, cure = fields
-    found = said(program(base, changes))
-    return [words, cure], next((it for it in found if it[0] == words), found)
+    """The message that has to be among those about a program with the slip, and the text after its first fix."""
+    _, base, changes, words, cure, lines = fields
+    text = program(base, changes)
+    wanted = None if lines == "-" else changed(text.decode().splitlines(), lines)
+    found = said(text)
+    for told, it in zip(found, messages(text)):
+        if told[0] == words:
+            return [words, cure, wanted], [*told, mended(text, it["fixes"][0]) if it["fixes"] else None]
+    return [words, cure, wanted], found
 
 
 @checks.each("lab_check/warned.tsv")
@@ -96,7 +117,9 @@ def warned(fields):
 @checks.others("lab/no_slips")
 def no_slips():
     """Nothing new is said of the examples, of right programs, and of those on the pages of explain."""
-    yield "slips are many", True, len(table.rows("lab_check/slips.tsv")) >= 75
+    rows = table.rows("lab_check/slips.tsv")
+    yield "slips are many", True, len(rows) >= 75
+    yield "and many have a fix", True, sum(row.fields[5] != "-" for row in rows) >= 100
     for base in BASES:
         yield f"base {base}", [], said(program(base, ""))
     yield "a handler in t0", [], said(HANDLER)

@@ -1,6 +1,6 @@
 //! The command `check`.
 
-use crate::messages::push_message_object;
+use crate::messages::{push_objects, push_source_objects};
 use command_parts::{
     CommandAnswer, Inputs, LabFault, Program, SourceText, Status, check_loose_schedule, is_image,
     read_program,
@@ -79,10 +79,15 @@ fn check_file<F: Files, R: Read>(
     let bytes = inputs.read(alloc, path)?;
     let kind = kind_of(request.kind, path, &bytes);
     let CheckedFile { text, messages } = judge(alloc, kind, bytes, program)?;
-    if request.json {
-        push_objects(alloc, told, path, &messages)?;
-    } else {
-        push_messages(alloc, told, path, &text, &messages)?;
+    match (text, request.json) {
+        (CheckedText::Source(source), true) => {
+            push_source_objects(alloc, told, path, source.ascii(), &messages)?
+        }
+        (CheckedText::Other(_), true) => push_objects(alloc, told, path, &messages)?,
+        (CheckedText::Source(source), false) => {
+            push_messages(alloc, told, path, &source.into_written(), &messages)?
+        }
+        (CheckedText::Other(text), false) => push_messages(alloc, told, path, &text, &messages)?,
     }
     let is_right = messages.iter().all(|message| message.severity != Severity::Error
         && !request.strict);
@@ -91,19 +96,6 @@ fn check_file<F: Files, R: Read>(
     } else {
         Status::Fault
     })
-}
-
-/// Adds messages about a file as objects.
-fn push_objects(
-    alloc: Global,
-    told: &mut String,
-    path: &str,
-    messages: &[Message],
-) -> Result<(), AllocError> {
-    for message in messages {
-        push_message_object(alloc, told, path, message)?;
-    }
-    Ok(())
 }
 
 /// Adds messages about a file with this text as lines.
@@ -141,11 +133,20 @@ fn kind_by_name(path: &str) -> Option<FileKind> {
     }
 }
 
+/// A text that was judged.
+#[derive(Drop)]
+enum CheckedText {
+    /// A source text.
+    Source(SourceText),
+    /// Another one; an image has none.
+    Other(Vec<u8>),
+}
+
 /// A file that was judged.
 #[derive(Drop)]
 struct CheckedFile {
-    /// The text whose lines are shown; an image has none.
-    text: Vec<u8>,
+    /// The text whose lines are shown.
+    text: CheckedText,
     /// What is to be said of it.
     messages: Vec<Message>,
 }
@@ -161,26 +162,28 @@ fn judge(
         FileKind::Source => {
             let source = SourceText::of(alloc, bytes)?;
             let messages = source_messages(alloc, &source)?;
-            let text = source.into_written();
-            Ok(CheckedFile { text, messages })
+            Ok(CheckedFile {
+                text: CheckedText::Source(source),
+                messages,
+            })
         }
         FileKind::Schedule => {
             let image = program.map(|program| &program.image);
             let messages = check_loose_schedule(alloc, &bytes, image)?;
             Ok(CheckedFile {
-                text: bytes,
+                text: CheckedText::Other(bytes),
                 messages,
             })
         }
         FileKind::Expectations => {
             let messages = check_expectations(alloc, &bytes, program)?;
             Ok(CheckedFile {
-                text: bytes,
+                text: CheckedText::Other(bytes),
                 messages,
             })
         }
         FileKind::Image => Ok(CheckedFile {
-            text: Vec::new(alloc),
+            text: CheckedText::Other(Vec::new(alloc)),
             messages: image_messages(alloc, &bytes)?,
         }),
     }

@@ -5,6 +5,7 @@
 mod assembling;
 mod checking;
 mod layouts;
+mod mendings;
 mod messages;
 mod new_programs;
 mod scheduling;
