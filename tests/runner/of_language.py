@@ -68,8 +68,17 @@ def wanted(text):
             "severity": 1 if it["severity"] == "error" else 2,
             **({"code": ("E" if it["severity"] == "error" else "") + str(number)} if number is not None else {}),
             "source": "mta_lab", "message": it["message"] + ("\n" + it["help"] if it["help"] else ""),
-            **({"tags": [1]} if number == 101 else {})})
+            **({"tags": [1]} if number == 101 else {}),
+            **({"relatedInformation": [related(lines, other) for other in it["related"]]} if it["related"] else {})})
     return found
+
+
+def related(lines, it):
+    """Another place that a message is about, as the protocol has it."""
+    line = lines[it["line"] - 1]
+    start, end = (languages.units(line[:at].decode(errors="replace")) for at in (it["column"] - 1, it["column"] - 1 + it["width"]))
+    return {"location": {"uri": URI, "range": {side: {"line": it["line"] - 1, "character": at}
+                                               for side, at in (("start", start), ("end", end))}}, "message": it["message"]}
 
 
 @checks.others("language/life")
@@ -119,6 +128,49 @@ def diagnostics():
 def same(text):
     with client(text) as session:
         return wanted(text), session.diagnostics()
+
+
+def spans(first, last):
+    """The parameters that name lines from one to another."""
+    return {"range": {"start": {"line": first, "character": 0}, "end": {"line": last, "character": 0}}}
+
+
+@checks.others("language/actions")
+def actions():
+    """Each fix of each slip, applied by the server's edit, gives fewer errors, or of a warning no error and fewer messages; the
+    fixes are those of check. None is given where others are asked for, and on other lines."""
+    for row in table.rows("lab_check/slips.tsv"):
+        name, base, changed = row.fields[:3]
+        yield name, lambda base=base, changed=changed: all_fixed(of_slips.program(base, changed).decode())
+    yield "letters beyond ASCII", lambda: all_fixed(TEXT.replace("        LOAD.S", "        LOAD.X") + " QUITE ; \u00e4 \U0001f600\n")
+    with client("        QUITE\n") as session:
+        def titles(first, last, **context):
+            return [it["title"] for it in session.of("codeAction", **spans(first, last), context={"diagnostics": [], **context})]
+
+        yield "a fix", ["write QUIT"], titles(0, 0)
+        yield "on its line", ["write QUIT"], titles(0, 9)
+        yield "on another line", [], titles(1, 1)
+        yield "quick fixes alone", ["write QUIT"], titles(0, 0, only=["refactor", "quickfix"])
+        yield "no quick fixes", [], titles(0, 0, only=["source.organizeImports"])
+        yield "no kind", [], titles(0, 0, only=[])
+        yield "no lines", -32602, session.error("textDocument/codeAction", textDocument={"uri": URI}, context={})[0]
+
+
+def all_fixed(text):
+    """The fixes that check has for a text, and those of the server; and the titles of those that do not mend it."""
+    told = [json.loads(row) for row in lab("check", "--json", "-", given=text.encode()).out.splitlines()]
+    errors = sum(it["severity"] == "error" for it in told)
+    with client(text) as session:
+        found = session.of("codeAction", **spans(0, text.count("\n")), context={"diagnostics": []})
+    failed = []
+    for it in found:
+        made = languages.edited(text, it["edit"]["changes"][URI])
+        left = [json.loads(row)["severity"] for row in lab("check", "--json", "-", given=made.encode()).out.splitlines()]
+        is_error = it["diagnostics"][0]["severity"] == 1
+        if left.count("error") >= errors if is_error else "error" in left or len(left) >= len(told):
+            failed.append(it["title"])
+    titles = [fix["title"] for it in told for fix in it["fixes"]]
+    return (titles, [], {"quickfix"} if titles else set()), ([it["title"] for it in found], failed, {it["kind"] for it in found})
 
 
 @checks.others("language/line_ends")
@@ -330,8 +382,8 @@ def many_changes():
         session.changes(TEXT + " QUITE\n QUITS\n")
         yield "changes", wanted(TEXT + " QUITE\n QUITS\n"), session.diagnostics(session.version)
         session.changes("        QUITE\n")
-        yield "asked at once", [], session.of("codeAction", range={"start": {"line": 0, "character": 0},
-                                "end": {"line": 0, "character": 9}}, context={"diagnostics": []})
+        found = session.of("codeAction", **spans(0, 0), context={"diagnostics": []})
+        yield "asked at once", ["write QUIT"], [it["title"] for it in found]
         yield "and its diagnostics", wanted("        QUITE\n"), session.diagnostics(session.version)
         session.notify("textDocument/didClose", {"textDocument": {"uri": URI}})
         yield "closed", [], session.diagnostics()

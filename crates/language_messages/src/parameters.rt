@@ -77,4 +77,26 @@ impl Parameters {
     fn declaration_asked(&self) -> Option<bool> {
         self.value("context")?.get("includeDeclaration")?.as_bool()
     }
+
+    /// The first and the last line that the message is about, from 0.
+    pub fn lines(&self) -> Option<(usize, usize)> {
+        let range = self.value("range")?;
+        let first = range.get("start")?.get("line")?.as_u64()?;
+        let last = range.get("end")?.get("line")?.as_u64()?;
+        Some((first as usize, last as usize))
+    }
+
+    /// Whether quick fixes are asked for: so where it is not said which actions are.
+    pub fn takes_quick_fixes(&self) -> bool {
+        match self.kinds_asked() {
+            Some(kinds) => kinds.iter().any(|kind| kind.as_str() == Some("quickfix")),
+            None => true,
+        }
+    }
+
+    /// The kinds of actions that are asked for, where that is said.
+    fn kinds_asked(&self) -> Option<&[Value]> {
+        let kinds = self.value("context")?.get("only")?.as_array()?;
+        Some(kinds.as_slice())
+    }
 }

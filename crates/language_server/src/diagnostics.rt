@@ -2,10 +2,10 @@
 
 use crate::documents::{Document, MOST_DOCUMENTS};
 use crate::line_starts::DocumentLine;
-use crate::ranges::put_range;
+use crate::ranges::{put_location, put_range};
 use editor_wire::Json;
 use fault_messages::{Message, Severity};
-use source_checks::{SourceText, source_messages};
+use source_cures::{CureFinder, Related};
 use std::alloc::{AllocError, Global};
 
 /// How many messages of a text are sent at most.
@@ -15,12 +15,16 @@ const MOST_SENT: usize = 500;
 const UNREACHED: u8 = 101;
 
 /// The parameters that tell what `check` says of a text.
-pub(crate) fn diagnostics_of(alloc: Global, document: &Document) -> Result<Json, AllocError> {
-    let written = document.as_written(alloc)?;
-    let messages = source_messages(alloc, &SourceText::of(alloc, written)?)?;
+pub(crate) fn diagnostics_of(
+    alloc: Global,
+    document: &Document,
+    messages: &[Message],
+) -> Result<Json, AllocError> {
+    let places = CureFinder::of(alloc, &document.ascii)?;
     let mut json = begun(alloc, document.uri.as_str(), document.version);
     for message in messages.iter().take(MOST_SENT) {
-        put_message(alloc, &mut json, document, message)?;
+        let related = places.related(message)?;
+        put_message(alloc, &mut json, document, message, related.as_ref())?;
     }
     let more = messages.len().saturating_sub(MOST_SENT);
     if more > 0 {
@@ -72,12 +76,13 @@ fn begun(alloc: Global, uri: &str, version: Option<i64>) -> Json {
     json
 }
 
-/// Writes a message.
-fn put_message(
+/// Writes a message, with another place that it is about, if there is one.
+pub(crate) fn put_message(
     alloc: Global,
     json: &mut Json,
     document: &Document,
     message: &Message,
+    related: Option<&Related>,
 ) -> Result<(), AllocError> {
     let empty = DocumentLine {
         number: message.line.saturating_sub(1),
@@ -117,8 +122,28 @@ fn put_message(
         json.number(1);
         json.close_list();
     }
+    if let Some(place) = related {
+        put_related(json, document, place);
+    }
     json.close();
     Ok(())
+}
+
+/// Writes another place that a message is about.
+fn put_related(json: &mut Json, document: &Document, place: &Related) {
+    json.open_list("relatedInformation");
+    json.open();
+    json.key("location");
+    put_location(
+        json,
+        document,
+        place.line.saturating_sub(1),
+        place.column.saturating_sub(1),
+        place.width,
+    );
+    json.text_of("message", place.words.as_str());
+    json.close();
+    json.close_list();
 }
 
 /// The protocol's number of a severity.

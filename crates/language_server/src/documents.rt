@@ -2,7 +2,9 @@
 
 use crate::line_starts::{DocumentLine, LineStarts};
 use editor_texts::{byte_at, with_line_feeds};
+use fault_messages::Message;
 use language_messages::Position;
+use source_checks::{SourceText, source_messages};
 use source_comments::ascii_comments;
 use std::alloc::{AllocError, Global};
 
@@ -25,6 +27,8 @@ pub(crate) struct Document {
     pub has_mark: bool,
     /// The same as the assembler reads it: a comment has a question mark for each byte that is not ASCII.
     pub ascii: Vec<u8>,
+    /// What `check` says of it; None where it is not yet checked.
+    pub messages: Option<Vec<Message>>,
     /// Whether its diagnostics are still to be sent.
     pub is_due: bool,
     starts: LineStarts,
@@ -60,6 +64,7 @@ impl Document {
             text,
             has_mark,
             ascii,
+            messages: None,
             is_due: true,
             starts,
         })
@@ -71,6 +76,12 @@ impl Document {
         let mut bytes = Vec::from_slice(alloc, mark)?;
         bytes.extend_from_slice(&self.text)?;
         Ok(bytes)
+    }
+
+    /// What `check` says of the text.
+    pub fn checked(&self, alloc: Global) -> Result<Vec<Message>, AllocError> {
+        let bytes = self.as_written(alloc)?;
+        source_messages(alloc, &SourceText::of(alloc, bytes)?)
     }
 
     /// A line by its number, from 0, as it was written.
@@ -147,7 +158,7 @@ impl Documents {
     }
 
     /// A text whose diagnostics are still to be sent, which are taken as sent then.
-    pub fn take_due(&mut self) -> Option<&Document> {
+    pub fn take_due(&mut self) -> Option<&mut Document> {
         let index = self.list.iter().position(|document| document.is_due)?;
         let document = self.list.get_mut(index)?;
         document.is_due = false;

@@ -1,6 +1,7 @@
 //! The Language Server Protocol over source texts: what a client's requests are answered (docs/EDITORS.md, "The language").
 #![tactic(auto)]
 
+mod actions;
 mod capabilities;
 mod completing;
 mod diagnostics;

@@ -3,6 +3,7 @@
 ghost use Rattle.std.specs.Prelude.{OnOk, string_bytes};
 ghost use Rattle.language_messages.specs.Responses.{SendsResponse, SendsNoResponse};
 
+use crate::actions::actions;
 use crate::capabilities::capabilities;
 use crate::completing::completion;
 use crate::diagnostics::{diagnostics_of, no_diagnostics, not_kept};
@@ -113,7 +114,9 @@ impl LanguageServer {
         let alloc = self.alloc;
         match self.documents.take_due() {
             Some(document) => {
-                let parameters = diagnostics_of(alloc, document)?;
+                let messages = document.checked(alloc)?;
+                let parameters = diagnostics_of(alloc, document, &messages)?;
+                document.messages = Some(messages);
                 connection.tell(alloc, PUBLISH, &parameters)
             }
             None => Ok(()),
@@ -154,7 +157,10 @@ impl LanguageServer {
         match question {
             TextQuestion::DocumentSymbol => Ok(symbols(alloc, document)?),
             TextQuestion::Formatting => Ok(layout(alloc, document)?),
-            TextQuestion::CodeAction => Ok(no_actions(alloc)),
+            TextQuestion::CodeAction => match parameters.lines() {
+                Some(lines) => Ok(actions(alloc, document, lines, parameters.takes_quick_fixes())?),
+                None => Err(refusal(RefusalKind::Parameters)),
+            },
             TextQuestion::Hover
             | TextQuestion::Completion
             | TextQuestion::Definition
@@ -280,12 +286,4 @@ fn of_place(
         | TextQuestion::Formatting
         | TextQuestion::CodeAction => Ok(hover(alloc, document, place)?),
     }
-}
-
-/// No way to mend anything.
-fn no_actions(alloc: Global) -> Json {
-    let mut json = Json::new(alloc);
-    json.begin_list();
-    json.close_list();
-    json
 }
