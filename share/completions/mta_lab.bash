@@ -6,26 +6,30 @@ _mta_lab_options() {
     check) echo '--as --program --strict --json --color --help' ;;
     fmt) echo '--check --color --help' ;;
     schedule) echo '--seed --steps --color --help' ;;
-    view) echo '--fair --seed --steps --from --to --only --word --columns --all --hex --json --color --help' ;;
-    debug) echo '--fair --seed --steps --color --help' ;;
+    view)
+      echo '--given --fair --seed --steps --from --to --only --word --columns --all --hex --json --color --help'
+      ;;
+    debug) echo '--given --fair --seed --steps --color --help' ;;
     dap) echo '--color --help' ;;
     lsp) echo '--color --help' ;;
-    compare) echo '--seeds --steps --hex --json --color --help' ;;
+    compare) echo '--given --seeds --steps --hex --json --color --help' ;;
     survey)
-      echo '--seeds --from --steps --expect --explore --states --seconds --memory --hex --json --color --help'
+      echo '--given --seeds --from --steps --expect --explore --states --seconds --memory --hex --json --color
+        --help'
       ;;
     explore)
-      echo '--expect --from --states --seconds --memory --plain --keep --pages --dot --hex --json --color --help'
+      echo '--given --expect --from --states --seconds --memory --plain --keep --pages --dot --hex --json --color
+        --help'
       ;;
     grade)
       echo '--expect --cases --given --require-names --seeds --steps --all --explore --thorough --states --seconds
         --memory --jobs --no-links --pages --format --undecided --feedback --hex --json --results --part --merge
         --color --help'
       ;;
-    exercise) echo '--hint --folder --color --help' ;;
-    page) echo '--seeds --fair --rounds --seed --steps --title --out --color --help' ;;
-    picture) echo '--fair --rounds --seed --steps --from --to --title --out --color --help' ;;
-    play) echo '--expect --from --states --title --goal --out --color --help' ;;
+    exercise) echo '--hint --page --play --reset --folder --color --help' ;;
+    page) echo '--given --seeds --fair --rounds --seed --steps --title --out --color --help' ;;
+    picture) echo '--given --fair --rounds --seed --steps --from --to --title --out --color --help' ;;
+    play) echo '--given --expect --from --states --title --goal --out --color --help' ;;
     asm) echo '--out --color --help' ;;
     explain) echo '--color --help' ;;
     word) echo '--color --help' ;;
@@ -48,16 +52,16 @@ _mta_lab_value() {
     *' --seed' | *' --steps' | 'view --from' | 'survey --from' | 'picture --from' | *' --to' | *' --only' | \
       *' --word' | 'survey --seeds' | 'grade --seeds' | *' --states' | *' --seconds' | *' --memory' | *' --jobs' | \
       *' --part' | *' --hint' | *' --title' | 'word '[0-9]* | 'new 1') echo 'text' ;;
+    *' --given') echo 'files .data' ;;
     'explore --from' | 'play --from' | 'view 2' | 'debug 2' | 'compare 2' | 'compare 3' | 'page 2' | 'page 3' | \
       'picture 2') echo 'files .schedule' ;;
     *' --expect') echo 'files .expect' ;;
     *' --keep' | *' --pages' | *' --cases' | *' --feedback' | *' --folder') echo 'folders' ;;
     *' --dot') echo 'files .dot' ;;
-    *' --given') echo 'files .data' ;;
     *' --format') echo 'words text tsv json junit gradescope moodle' ;;
     *' --undecided') echo 'words right wrong' ;;
     *' --results') echo 'files .jsonl' ;;
-    'page --out' | 'play --out') echo 'files .html' ;;
+    *' --page' | *' --play' | 'page --out' | 'play --out') echo 'files .html' ;;
     'picture --out') echo 'files .svg' ;;
     'asm --out') echo 'files .image' ;;
     *' --goal') echo 'words right wrong deadlock stopped spinning broken' ;;

@@ -15,7 +15,7 @@ from table import unescaped
 
 EXERCISES = os.path.join(table.ROOT, "exercises")
 BY_EVERY = ("--explore", "--states", "8000", "--seeds", "20", "--steps", "2000")
-FILES = ("advice", "cases", "hints.md", "solution.asm", "start.asm", "task.md", "wrong")
+FILES = ("advice", "cases", "hints.md", "original.asm", "solution.asm", "start.asm", "task.md", "wrong")
 
 
 def exercises():
@@ -77,9 +77,14 @@ def is_whole(exercise):
                                        hints.startswith("## Hint 1\n"), len(cases) > 1)
 
 
+def is_unedited(exercise):
+    """The file that a reset takes is the start."""
+    return text_of(exercise, "start.asm"), text_of(exercise, "original.asm")
+
+
 @checks.others("exercises/programs")
 def programs():
-    parts = (is_whole, is_quiet, is_solved, is_open)
+    parts = (is_whole, is_quiet, is_solved, is_open, is_unedited)
     return [(f"exercises/{name}: {part.__name__}", lambda name=name, part=part: part(name))
             for name in exercises() for part in parts]
 
@@ -138,6 +143,8 @@ def advice(fields):
 # the command `exercise`, beside what `grade` says of the same program, put into words by the rules of docs/LAB_REFERENCE.md
 
 THOROUGH = ("--states", "200000", "--seeds", "200", "--steps", "10000")
+ALL_DONE = ("These are all. What you have learnt is enough for programs of your own: mta_lab new NAME writes one to begin "
+            "with.")
 AFTER_SENTENCE = ("All messages: ", "To look at this run:", "A hint: ")
 QUICK = ("--states", "20000", "--seeds", "20", "--steps", "2000")
 # an exercise, and what takes the place of its start: a file of its own, or a text; None where it is gone
@@ -186,19 +193,19 @@ def next_after(exercise):
             f"then mta_lab exercise {int(name[:2])}" for name in later[:1]]
 
 
-def shown_run(path, why):
-    """The commands that show a run, and with which words it is."""
+def shown_run(path, why, number):
+    """The commands that show a run, with the words of its case."""
     found = re.match(r"case (\w+): (?:\d+\.\d+ waits .*?; )?(?:schedule ([\d ,]+)|(?:.*, and )?seed (\d+))(?:: |; |$)", why)
     if not found:
         return []
     case, turns, seed = found.groups()
-    view = f"  mta_lab view {path}/start.asm "
-    lines = [view + f"--seed {seed}"]
+    view, given = f"  mta_lab view {path}/start.asm ", f" --given {path}/cases/{case}.data"
+    lines = [view + f"--seed {seed}" + given]
     if turns:
         lines = ["  printf '" + "".join(turn + "\\n" for turn in turns.split(", ")) + "' > found.schedule",
-                 view + "found.schedule"]
-    return ["To look at this run:", *lines,
-            f"It has the words of {path}/cases/{case}.data: if your .data lines differ, put these there."]
+                 view + "found.schedule" + given]
+    return ["To look at this run:", *lines, f"  mta_lab exercise {number} --page run.html",
+            f"To choose each step yourself: mta_lab exercise {number} --play play.html"]
 
 
 def told(exercise, program, verdict, why):
@@ -211,7 +218,7 @@ def told(exercise, program, verdict, why):
     sentence = beginnings.get((exercise, program))
     lines += [sentence_of(exercise, sentence)] if sentence else []
     lines += [f"All messages: mta_lab check {path}/start.asm"] if verdict == "source fault" else []
-    return [*lines, *shown_run(path, why), f"A hint: mta_lab exercise {number} --hint 1"]
+    return [*lines, *shown_run(path, why, number), f"A hint: mta_lab exercise {number} --hint 1"]
 
 
 def sentence_said(exercise, folder):
@@ -220,29 +227,88 @@ def sentence_said(exercise, folder):
     return next((line for line in lines if not line.startswith(AFTER_SENTENCE)), None)
 
 
+def warned(exercise, folder):
+    """The first three warnings of `check` on a start, but for those of comments and names."""
+    said = lab("check", f"exercises/{exercise}/start.asm", folder=folder).err.decode()
+    messages = re.split(r"(?m)^(?=exercises/)", said)[1:]
+    return "".join([message for message in messages if ": warning: " in message
+                    and "(explain 106)" not in message and "(explain 114)" not in message][:3])
+
+
 def tells(exercise, program):
     with copied() as folder:
         put(folder, exercise, program)
         verdict, why, status = row_of(folder, exercise, THOROUGH)
+        warnings = "" if verdict == "right" or program is None else warned(exercise, folder)
         said = lab("exercise", exercise[:2], folder=folder)
     wanted = "".join(line + "\n" for line in told(exercise, program, verdict, why))
-    return (status, wanted.encode(), b""), (said.status, said.out, said.err)
+    return (status, wanted.encode(), warnings.encode()), (said.status, said.out, said.err)
 
 
-def lists(solved):
-    """All exercises, of which some are solved."""
+def lists(solved, tried):
+    """All exercises, of which some are solved, and some were tried."""
+    edited = [*solved, *tried]
     with copied() as folder:
         for exercise in solved:
             put(folder, exercise, "solution.asm")
+        for exercise in tried:
+            put(folder, exercise, text_of(exercise, "start.asm") + "; mine\n")
         verdicts = {exercise: row_of(folder, exercise, QUICK)[0] for exercise in exercises()}
         said = lab("exercise", folder=folder)
     width = max(len(title_of(exercise)) for exercise in exercises())
     lines = [f"{int(exercise[:2]):>3}  {title_of(exercise):<{width}}  "
-             + ("done" if verdict == "right" else f"not yet: {verdict}") for exercise, verdict in verdicts.items()]
+             + ("done" if verdict == "right" else "not begun" if exercise not in edited else f"not yet: {verdict}")
+             for exercise, verdict in verdicts.items()]
     todo = [exercise for exercise in exercises() if exercise not in solved]
     before = max([name for name in exercises() if name < todo[0]], default=None) if todo else exercises()[-1]
-    lines += [f"{len(solved)} of {len(lines)} are done.", *next_after(before)]
+    lines += [f"{len(solved)} of {len(lines)} are done."] + ([] if todo else [ALL_DONE]) + next_after(before)
     return (0, "".join(line + "\n" for line in lines).encode(), b""), (said.status, said.out, said.err)
+
+
+def by_name(exercise):
+    """An exercise is found by its name too."""
+    calls = [lab("exercise", word, "--hint", "1", folder=table.ROOT)
+             for word in (str(int(exercise[:2])), exercise, exercise[3:])]
+    return [calls[0]] * 3, calls
+
+
+def writes_page(option, texts):
+    """The page of the run by which a start is not right: the last line names it, and it has the words of the case."""
+    with copied("01_hand_over") as folder:
+        put(folder, "01_hand_over", "wrong/looks_at_once.asm")
+        plain = lab("exercise", "1", folder=folder)
+        said = lab("exercise", "1", option, "out.html", folder=folder)
+        with open(os.path.join(folder, "out.html"), encoding="utf-8") as file:
+            page = file.read()
+    return ((plain.status, plain.out + b"out.html: open it in a browser\n", plain.err, [True] * len(texts)),
+            (said.status, said.out, said.err, [text in page for text in texts]))
+
+
+def no_page():
+    """Of a right program no run goes wrong; but the page of all schedules is written."""
+    with copied("01_hand_over") as folder:
+        put(folder, "01_hand_over", "solution.asm")
+        plain = lab("exercise", "1", folder=folder)
+        page = lab("exercise", "1", "--page", "out.html", folder=folder)
+        play = lab("exercise", "1", "--play", "out.html", folder=folder)
+    return ((1, plain.out, b"mta_lab: out.html: not written: no run of the program goes wrong\n",
+             0, plain.out + b"out.html: open it in a browser\n"),
+            (page.status, page.out, page.err, play.status, play.out))
+
+
+def resets():
+    """A reset makes a program what it was at first, and keeps the one that was there."""
+    mine, path = "; mine\n", "exercises/03_lock/"
+    with copied("03_lock") as folder:
+        put(folder, "03_lock", mine)
+        said = [lab("exercise", "lock", "--reset", folder=folder) for _ in range(2)]
+        texts = []
+        for name in ("start.asm", "start.old.asm"):
+            with open(os.path.join(folder, path, name), encoding="ascii") as file:
+                texts.append(file.read())
+    return ([(0, f"{path}start.old.asm: your program\n{path}start.asm: as it was at first\n"),
+             (0, f"{path}start.asm: it is as it was at first\n")], [text_of("03_lock", "start.asm"), mine]), (
+                 [(call.status, call.out.decode()) for call in said], texts)
 
 
 def hints_of(exercise):
@@ -261,8 +327,14 @@ def shows_hint(exercise, number):
 def command():
     for exercise, program in TOLD:
         yield f"{exercise} {program!r}", lambda exercise=exercise, program=program: tells(exercise, program)
-    for solved in ([], exercises()[:2], exercises()):
-        yield f"{len(solved)} are solved", lambda solved=solved: lists(solved)
+    for solved, tried in (([], []), (exercises()[:2], exercises()[2:4]), (exercises(), [])):
+        yield f"{len(solved)} are solved", lambda solved=solved, tried=tried: lists(solved, tried)
+    for exercise in exercises():
+        yield f"{exercise} by its name", lambda exercise=exercise: by_name(exercise)
+    yield "a page", lambda: writes_page("--page", ["Hand over one number, case ", "the schedule that decides"])
+    yield "a page of all schedules", lambda: writes_page("--play", ["Hand over one number, case ", "you are the scheduler"])
+    yield "no page of a right program", no_page
+    yield "a reset", resets
     for exercise in exercises():
         for number in range(1, len(hints_of(exercise)) + 1):
             yield f"{exercise}, hint {number}", lambda exercise=exercise, number=number: shows_hint(exercise, number)

@@ -6,9 +6,8 @@ use crate::file_commands::{
     NEW_ARGUMENTS, WORD_ARGUMENTS,
 };
 use crate::help;
-use crate::many_runs_commands::{
-    EXPLORE_ARGUMENTS, GRADE_ARGUMENTS, PLAY_ARGUMENTS, SURVEY_ARGUMENTS,
-};
+use crate::many_runs_commands::{EXPLORE_ARGUMENTS, GRADE_ARGUMENTS, SURVEY_ARGUMENTS};
+use crate::play_command::PLAY_ARGUMENTS;
 use crate::run_commands::{
     COMPARE_ARGUMENTS, DEBUG_ARGUMENTS, PAGE_ARGUMENTS, PICTURE_ARGUMENTS, SCHEDULE_ARGUMENTS,
     VIEW_ARGUMENTS,

@@ -4,9 +4,9 @@ use crate::arguments::{Argument, Form, Presence};
 use crate::choices::{KIND_WORDS, KINDS};
 use crate::options::{EXERCISES, MOST_HINTS, chosen, text, word, words};
 use crate::shared_arguments::JSON;
-use crate::values::{PROGRAM_FILE, SOURCE_FILE, ValueKind};
+use crate::values::{PAGE_FILE, PROGRAM_FILE, SOURCE_FILE, ValueKind};
 use clap::ArgMatches;
-use lab_requests::{CheckRequest, ExerciseRequest, LabCommand, LayoutRequest};
+use lab_requests::{CheckRequest, ExerciseRequest, ExerciseTask, LabCommand, LayoutRequest};
 use std::alloc::{AllocError, Global};
 
 /// Of `check`.
@@ -76,10 +76,10 @@ pub(crate) const ASM_ARGUMENTS: [Argument; 2] = [
 ];
 
 /// Of `exercise`.
-pub(crate) const EXERCISE_ARGUMENTS: [Argument; 3] = [
+pub(crate) const EXERCISE_ARGUMENTS: [Argument; 6] = [
     Argument(
         "NUMBER",
-        "the exercise, by its number [lists all]",
+        "the exercise, by its number or its name [lists all]",
         Form::Optional(ValueKind::Exercise, &[]),
     ),
     Argument(
@@ -90,6 +90,21 @@ pub(crate) const EXERCISE_ARGUMENTS: [Argument; 3] = [
             ValueKind::Number(1, MOST_HINTS),
             Presence::With("NUMBER"),
         ),
+    ),
+    Argument(
+        "page",
+        "writes the page of a run that is not right, FILE.html",
+        Form::Option("FILE", PAGE_FILE, Presence::With("NUMBER")),
+    ),
+    Argument(
+        "play",
+        "writes the page of all schedules, opened where that run ends, FILE.html",
+        Form::Option("FILE", PAGE_FILE, Presence::With("NUMBER")),
+    ),
+    Argument(
+        "reset",
+        "makes start.asm what it was before you edited it",
+        Form::Flag(&["hint", "page", "play"]),
     ),
     Argument(
         "folder",
@@ -163,6 +178,38 @@ pub(crate) fn exercise_of<'a>(found: &ArgMatches<'a>) -> ExerciseRequest<'a> {
     ExerciseRequest {
         folder: text(found, "folder").unwrap_or(EXERCISES),
         which: text(found, "NUMBER"),
-        hint: found.get_one::<usize>("hint"),
+        task: task_of(found),
     }
+}
+
+/// What is done with an exercise.
+fn task_of<'a>(found: &ArgMatches<'a>) -> ExerciseTask<'a> {
+    if found.get_flag("reset") {
+        return ExerciseTask::Reset;
+    }
+    if let Some(hint) = found.get_one::<usize>("hint") {
+        return ExerciseTask::Hint(hint);
+    }
+    match (text(found, "page"), text(found, "play")) {
+        (Some(page), _) => ExerciseTask::Page(page),
+        (None, Some(page)) => ExerciseTask::Play(page),
+        (None, None) => ExerciseTask::Judge,
+    }
+}
+
+/// What is said of words of `exercise` that do not go together.
+pub(crate) fn exercise_misfit(found: &ArgMatches) -> Option<&'static str> {
+    let mut asked: usize = 0;
+    for name in ["hint", "page", "play"] {
+        if found.contains_id(name) {
+            asked = asked.saturating_add(1);
+        }
+    }
+    if asked > 1 {
+        return Some("--hint, --page and --play are asked one at a time");
+    }
+    if found.get_flag("reset") && !found.contains_id("NUMBER") {
+        return Some("--reset takes the number of an exercise");
+    }
+    None
 }

@@ -168,12 +168,15 @@ pub(crate) const EXERCISE: &str = "\
 Lists the exercises of a folder, and which are done. With a number it judges your program: the file
 start.asm in the folder of that exercise, which you edit. It is tried with all cases, by every
 schedule. If it is not right, a schedule shows why, with the commands to view that run. Each
-exercise has a task, task.md, and hints.
+exercise has a task, task.md, and hints. --page FILE writes a page of that run, and --play FILE a page
+on which you choose each step, opened after that run. --reset makes start.asm what it was at first,
+and keeps yours as start.old.asm.
 
 Examples:
   mta_lab exercise
   mta_lab exercise 3
-  mta_lab exercise 3 --hint 1";
+  mta_lab exercise lock --hint 1
+  mta_lab exercise 3 --page run.html";
 
 pub(crate) const ASM: &str = "\
 Assembles a source text, and writes the image. The image is written under another name and then
@@ -279,5 +282,8 @@ colours, auto: on a terminal, unless NO_COLOR is set [auto]";
 pub(crate) const HEX: &str = "prints numbers in hexadecimal digits";
 
 pub(crate) const EXPECT: &str = "what each end has to be: word ADDRESS VALUE [full|empty], ..";
+
+pub(crate) const GIVEN: &str =
+    "the words of a case, .data and .fill lines, in place of the program's own";
 
 pub(crate) const TITLE: &str = "what the program is called [the name of its file]";

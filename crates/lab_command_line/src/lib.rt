@@ -13,6 +13,7 @@ mod help;
 mod many_runs_commands;
 mod options;
 mod parsers;
+mod play_command;
 mod reading;
 mod run_commands;
 mod shared_arguments;

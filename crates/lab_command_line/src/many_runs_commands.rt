@@ -1,26 +1,27 @@
 //! The commands over many runs or every schedule: their arguments, in the order of the help, and what they ask.
 
 use crate::arguments::{Argument, Form, Presence};
-use crate::choices::{FORMAT_WORDS, FORMATS, GOALS, UNDECIDED, UNDECIDED_WORDS};
+use crate::choices::{FORMAT_WORDS, FORMATS, UNDECIDED, UNDECIDED_WORDS};
 use crate::options::{
     MOST_JOBS, MOST_MEGABYTES, MOST_SECONDS, MOST_WORLDS, USUAL_MEGABYTES, USUAL_SEEDS,
     USUAL_STEPS, USUAL_WORLDS, chosen, count, number, shown_of, text, word, words,
 };
 use crate::shared_arguments::{
-    BEGINNING, EXPECT, HEX, JSON, PROGRAM, SECONDS, SEEDS, STATES, STEPS, TITLE,
+    BEGINNING, EXPECT, GIVEN, HEX, JSON, PROGRAM, SECONDS, SEEDS, STATES, STEPS,
 };
-use crate::values::{EXPECT_FILE, PAGE_FILE, PROGRAM_FILE, RESULTS_FILE, ValueKind};
+use crate::values::{CELLS_FILE, EXPECT_FILE, PROGRAM_FILE, RESULTS_FILE, ValueKind};
 use crate::{VERSION, help};
 use clap::ArgMatches;
 use lab_requests::{
-    Bounds, ExploreRequest, GradeCases, GradeFormat, GradeRequest, LabCommand, MOST_PLAYED,
-    MergeRequest, PlayRequest, SurveyRequest, Undecided,
+    Bounds, ExploreRequest, GradeCases, GradeFormat, GradeRequest, LabCommand, MergeRequest,
+    SurveyRequest, Undecided,
 };
 use std::alloc::{AllocError, Global};
 
 /// Of `survey`.
-pub(crate) const SURVEY_ARGUMENTS: [Argument; 11] = [
+pub(crate) const SURVEY_ARGUMENTS: [Argument; 12] = [
     PROGRAM,
+    GIVEN,
     SEEDS,
     Argument(
         "from",
@@ -50,8 +51,9 @@ pub(crate) const SURVEY_ARGUMENTS: [Argument; 11] = [
 ];
 
 /// Of `explore`.
-pub(crate) const EXPLORE_ARGUMENTS: [Argument; 12] = [
+pub(crate) const EXPLORE_ARGUMENTS: [Argument; 13] = [
     PROGRAM,
+    GIVEN,
     EXPECT,
     BEGINNING,
     Argument(
@@ -112,11 +114,7 @@ pub(crate) const GRADE_ARGUMENTS: [Argument; 24] = [
     Argument(
         "given",
         "the cells, as .data and .fill lines, that replace words of each submission",
-        Form::Option(
-            "FILE",
-            ValueKind::File(&[".data"]),
-            Presence::Without(&["cases"]),
-        ),
+        Form::Option("FILE", CELLS_FILE, Presence::Without(&["cases"])),
     ),
     Argument(
         "require-names",
@@ -226,37 +224,11 @@ pub(crate) const GRADE_ARGUMENTS: [Argument; 24] = [
     ),
 ];
 
-/// Of `play`.
-pub(crate) const PLAY_ARGUMENTS: [Argument; 7] = [
-    PROGRAM,
-    EXPECT,
-    BEGINNING,
-    Argument(
-        "states",
-        "the most states of the page, 1 to 100000 [100000]",
-        Form::Option(
-            "N",
-            ValueKind::Number(1, MOST_PLAYED as u64),
-            Presence::Free,
-        ),
-    ),
-    TITLE,
-    Argument(
-        "goal",
-        "the first goal: right, wrong, deadlock, stopped, spinning, broken, or the number of an end [none]",
-        Form::Option("TEXT", ValueKind::OneOfOrOther(&GOALS), Presence::Free),
-    ),
-    Argument(
-        "out",
-        "the page, FILE.html",
-        Form::Option("FILE", PAGE_FILE, Presence::Needed),
-    ),
-];
-
 /// What `survey` is asked.
 pub(crate) fn survey_of<'a>(found: &ArgMatches<'a>) -> SurveyRequest<'a> {
     SurveyRequest {
         program: word(found, "PROGRAM"),
+        given: text(found, "given"),
         seeds: count(found, "seeds", USUAL_SEEDS),
         first: number(found, "from", 0),
         most: count(found, "steps", USUAL_STEPS),
@@ -266,23 +238,11 @@ pub(crate) fn survey_of<'a>(found: &ArgMatches<'a>) -> SurveyRequest<'a> {
     }
 }
 
-/// What `play` is asked.
-pub(crate) fn play_of<'a>(found: &ArgMatches<'a>) -> PlayRequest<'a> {
-    PlayRequest {
-        program: word(found, "PROGRAM"),
-        expected: text(found, "expect"),
-        from: text(found, "from"),
-        states: count(found, "states", MOST_PLAYED),
-        title: text(found, "title"),
-        goal: text(found, "goal"),
-        out: word(found, "out"),
-    }
-}
-
 /// What `explore` is asked.
 pub(crate) fn explore_of<'a>(found: &ArgMatches<'a>) -> ExploreRequest<'a> {
     ExploreRequest {
         program: word(found, "PROGRAM"),
+        given: text(found, "given"),
         expected: text(found, "expect"),
         from: text(found, "from"),
         bounds: bounds_of(found),

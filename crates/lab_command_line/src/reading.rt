@@ -4,9 +4,10 @@ use crate::choices::{COLOUR_WORDS, COLOURS};
 use crate::commands::{CommandName, command_called};
 use crate::file_commands::{asm_of, check_of, exercise_of, explain_of, layout_of, new_of, word_of};
 use crate::foreign_words::refusal_of;
-use crate::many_runs_commands::{explore_of, grading_of, play_of, survey_of};
+use crate::many_runs_commands::{explore_of, grading_of, survey_of};
 use crate::options::chosen;
 use crate::parsers::lab_parser;
+use crate::play_command::play_of;
 use crate::run_commands::{
     compare_of, debug_of, misfit_of, page_of, picture_of, schedule_of, view_of,
 };

@@ -3,9 +3,10 @@
 use crate::arguments::{Argument, Form, Presence};
 use crate::choices::{RULE_WORDS, RULES, RuleName};
 use crate::commands::CommandName;
+use crate::file_commands::exercise_misfit;
 use crate::help;
 use crate::options::{MOST_STEPS, USUAL_STEPS, chosen, count, number, shown_of, text, word};
-use crate::shared_arguments::{HEX_IN_TEXT, JSON, PROGRAM, SCHEDULE, SEED, STEPS, TITLE};
+use crate::shared_arguments::{GIVEN, HEX_IN_TEXT, JSON, PROGRAM, SCHEDULE, SEED, STEPS, TITLE};
 use crate::values::{PAGE_FILE, SCHEDULE_FILE, ValueKind};
 use clap::ArgMatches;
 use lab_requests::{LabCommand, Maker, PageRequest, RunChoice, ViewRequest};
@@ -23,9 +24,10 @@ pub(crate) const SCHEDULE_ARGUMENTS: [Argument; 4] = [
 ];
 
 /// Of `view`.
-pub(crate) const VIEW_ARGUMENTS: [Argument; 13] = [
+pub(crate) const VIEW_ARGUMENTS: [Argument; 14] = [
     PROGRAM,
     SCHEDULE,
+    GIVEN,
     Argument("fair", help::FAIR, Form::Flag(&["seed"])),
     SEED,
     STEPS,
@@ -60,16 +62,17 @@ pub(crate) const VIEW_ARGUMENTS: [Argument; 13] = [
 ];
 
 /// Of `debug`.
-pub(crate) const DEBUG_ARGUMENTS: [Argument; 5] = [
+pub(crate) const DEBUG_ARGUMENTS: [Argument; 6] = [
     PROGRAM,
     SCHEDULE,
+    GIVEN,
     Argument("fair", help::FAIR, Form::Flag(&["seed"])),
     SEED,
     STEPS,
 ];
 
 /// Of `compare`.
-pub(crate) const COMPARE_ARGUMENTS: [Argument; 7] = [
+pub(crate) const COMPARE_ARGUMENTS: [Argument; 8] = [
     PROGRAM,
     Argument(
         "ONE",
@@ -77,6 +80,7 @@ pub(crate) const COMPARE_ARGUMENTS: [Argument; 7] = [
         Form::Needed(SCHEDULE_FILE),
     ),
     Argument("OTHER", "another one", Form::Needed(SCHEDULE_FILE)),
+    GIVEN,
     Argument(
         "seeds",
         "ONE and OTHER are seeds of random schedules",
@@ -96,7 +100,7 @@ pub(crate) const COMPARE_ARGUMENTS: [Argument; 7] = [
 ];
 
 /// Of `page`.
-pub(crate) const PAGE_ARGUMENTS: [Argument; 10] = [
+pub(crate) const PAGE_ARGUMENTS: [Argument; 11] = [
     PROGRAM,
     Argument(
         "SCHEDULE",
@@ -108,6 +112,7 @@ pub(crate) const PAGE_ARGUMENTS: [Argument; 10] = [
         "another one, whose run is shown next to the first",
         Form::Optional(SCHEDULE_FILE, &[]),
     ),
+    GIVEN,
     Argument(
         "seeds",
         "SCHEDULE and OTHER are seeds of random schedules",
@@ -130,13 +135,14 @@ pub(crate) const PAGE_ARGUMENTS: [Argument; 10] = [
 ];
 
 /// Of `picture`.
-pub(crate) const PICTURE_ARGUMENTS: [Argument; 10] = [
+pub(crate) const PICTURE_ARGUMENTS: [Argument; 11] = [
     PROGRAM,
     Argument(
         "SCHEDULE",
         help::SCHEDULE_FILE,
         Form::Optional(SCHEDULE_FILE, &["fair", "seed", "rounds", "steps"]),
     ),
+    GIVEN,
     Argument("fair", help::FAIR, Form::Flag(&["seed", "rounds"])),
     Argument(
         "rounds",
@@ -169,6 +175,7 @@ pub(crate) fn misfit_of(command: CommandName, found: &ArgMatches) -> Option<&'st
         CommandName::Schedule => seed_misfit(found),
         CommandName::Compare => compare_misfit(found),
         CommandName::Page => page_misfit(found),
+        CommandName::Exercise => exercise_misfit(found),
         CommandName::Check
         | CommandName::Fmt
         | CommandName::View
@@ -178,7 +185,6 @@ pub(crate) fn misfit_of(command: CommandName, found: &ArgMatches) -> Option<&'st
         | CommandName::Survey
         | CommandName::Explore
         | CommandName::Grade
-        | CommandName::Exercise
         | CommandName::Picture
         | CommandName::Play
         | CommandName::Asm
@@ -281,6 +287,7 @@ pub(crate) fn schedule_of<'a>(found: &ArgMatches<'a>) -> LabCommand<'a> {
 pub(crate) fn debug_of<'a>(found: &ArgMatches<'a>) -> LabCommand<'a> {
     LabCommand::Debug {
         program: word(found, "PROGRAM"),
+        given: text(found, "given"),
         run: run_of(found),
     }
 }
@@ -289,6 +296,7 @@ pub(crate) fn debug_of<'a>(found: &ArgMatches<'a>) -> LabCommand<'a> {
 pub(crate) fn compare_of<'a>(found: &ArgMatches<'a>) -> LabCommand<'a> {
     LabCommand::Compare {
         program: word(found, "PROGRAM"),
+        given: text(found, "given"),
         one: compared_of(found, "ONE"),
         other: compared_of(found, "OTHER"),
         shown: shown_of(found),
@@ -299,6 +307,7 @@ pub(crate) fn compare_of<'a>(found: &ArgMatches<'a>) -> LabCommand<'a> {
 pub(crate) fn view_of<'a>(found: &ArgMatches<'a>) -> ViewRequest<'a> {
     ViewRequest {
         program: word(found, "PROGRAM"),
+        given: text(found, "given"),
         run: run_of(found),
         from: count(found, "from", 1),
         to: count(found, "to", usize::MAX),
@@ -350,6 +359,7 @@ fn drawn_of<'a>(found: &ArgMatches<'a>) -> PageRequest<'a> {
     };
     PageRequest {
         program: word(found, "PROGRAM"),
+        given: text(found, "given"),
         run,
         other: None,
         from: 1,

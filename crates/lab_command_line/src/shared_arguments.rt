@@ -3,7 +3,7 @@
 use crate::arguments::{Argument, Form, Presence};
 use crate::help;
 use crate::options::{MOST_SECONDS, MOST_SEEDS, MOST_STEPS, MOST_WORLDS};
-use crate::values::{EXPECT_FILE, PROGRAM_FILE, SCHEDULE_FILE, ValueKind};
+use crate::values::{CELLS_FILE, EXPECT_FILE, PROGRAM_FILE, SCHEDULE_FILE, ValueKind};
 
 /// The program.
 pub(crate) const PROGRAM: Argument = Argument("PROGRAM", help::PROGRAM, Form::Needed(PROGRAM_FILE));
@@ -41,6 +41,13 @@ pub(crate) const EXPECT: Argument = Argument(
     "expect",
     help::EXPECT,
     Form::Option("FILE", EXPECT_FILE, Presence::Free),
+);
+
+/// The words of a case, in place of the program's own.
+pub(crate) const GIVEN: Argument = Argument(
+    "given",
+    help::GIVEN,
+    Form::Option("FILE", CELLS_FILE, Presence::Free),
 );
 
 /// The schedule that all schedules begin with.

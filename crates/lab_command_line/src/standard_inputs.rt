@@ -34,28 +34,44 @@ fn standard_inputs(command: &LabCommand) -> usize {
     match command {
         LabCommand::Check(request) => of_check(request),
         LabCommand::Schedule { program, .. } => count_of(&[Some(*program)]),
-        LabCommand::View(request) => count_of(&[Some(request.program), file_of(request.run)]),
-        LabCommand::Debug { program, run } => count_of(&[Some(*program), file_of(*run)]),
+        LabCommand::View(request) => {
+            count_of(&[Some(request.program), request.given, file_of(request.run)])
+        }
+        LabCommand::Debug {
+            program,
+            given,
+            run,
+        } => count_of(&[Some(*program), *given, file_of(*run)]),
         LabCommand::Compare {
             program,
+            given,
             one,
             other,
             ..
-        } => count_of(&[Some(*program), file_of(*one), file_of(*other)]),
-        LabCommand::Survey(request) => count_of(&[Some(request.program), request.expected]),
-        LabCommand::Explore(request) => {
-            count_of(&[Some(request.program), request.expected, request.from])
+        } => count_of(&[Some(*program), *given, file_of(*one), file_of(*other)]),
+        LabCommand::Survey(request) => {
+            count_of(&[Some(request.program), request.given, request.expected])
         }
+        LabCommand::Explore(request) => count_of(&[
+            Some(request.program),
+            request.given,
+            request.expected,
+            request.from,
+        ]),
         LabCommand::Grade(request) => of_grade(request),
         LabCommand::Merge(request) => count_in(&request.results),
         LabCommand::Page(request) | LabCommand::Picture(request) => count_of(&[
             Some(request.program),
+            request.given,
             file_of(request.run),
             request.other.and_then(file_of),
         ]),
-        LabCommand::Play(request) => {
-            count_of(&[Some(request.program), request.expected, request.from])
-        }
+        LabCommand::Play(request) => count_of(&[
+            Some(request.program),
+            request.given,
+            request.expected,
+            request.from,
+        ]),
         LabCommand::LayOut(request) => count_in(&request.files),
         LabCommand::Assemble { source, .. } => count_of(&[Some(*source)]),
         LabCommand::Adapt

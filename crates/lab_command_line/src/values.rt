@@ -35,6 +35,9 @@ pub(crate) const SCHEDULE_FILE: ValueKind = ValueKind::File(&[".schedule"]);
 /// What the end of a run has to be.
 pub(crate) const EXPECT_FILE: ValueKind = ValueKind::File(&[".expect"]);
 
+/// The words of a case.
+pub(crate) const CELLS_FILE: ValueKind = ValueKind::File(&[".data"]);
+
 /// A page for a browser.
 pub(crate) const PAGE_FILE: ValueKind = ValueKind::File(&[".html"]);
 

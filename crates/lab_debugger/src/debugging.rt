@@ -3,7 +3,8 @@
 use crate::debug_lines::{InputLines, LINE_LIMIT, NextLine};
 use crate::debug_repl::{AfterLine, DebugRepl};
 use crate::sessions::named_of;
-use command_parts::{Inputs, LabFault, Program, Status, read_program, steps_of, write_out};
+use asked_programs::read_asked_program;
+use command_parts::{Inputs, LabFault, Program, Status, steps_of, write_out};
 use image_machines::by_room;
 use lab_requests::RunChoice;
 use lab_texts::{Columns, ProgramNames, TextWriter, plural};
@@ -27,15 +28,17 @@ pub struct Screen<'a, W, E> {
     pub is_prompted: bool,
 }
 
-/// Answers the lines of standard input over a run of a program, each before the next is read.
+/// Answers the lines of standard input over a run of a program, each before the next is read. With the file of a case's words
+/// the program has these.
 pub fn debug<F: Files, R: Read, W: Write, E: Write>(
     alloc: Global,
     inputs: &mut Inputs<'_, F, R>,
     program: &str,
+    given: Option<&str>,
     run: RunChoice,
     screen: &mut Screen<'_, W, E>,
 ) -> Result<Status, LabFault> {
-    let program = read_program(alloc, inputs, program)?;
+    let program = read_asked_program(alloc, inputs, program, given)?;
     let steps = steps_of(alloc, inputs, &program, run)?;
     by_room!(
         program.image,

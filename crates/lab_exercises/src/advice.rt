@@ -45,9 +45,9 @@ fn sentence_among(
     let Some(case) = decided.judgement.deciding() else {
         return Ok(None);
     };
-    let steps = steps_of(alloc, &decided.image, &judgement.row.witness)?;
+    let steps = steps_of(alloc, &decided.program.image, &judgement.row.witness)?;
     let shown = ShownMistake {
-        image: &decided.image,
+        image: &decided.program.image,
         required: &decided.required,
         judgement: case,
         steps: &steps,
@@ -72,7 +72,11 @@ fn sentence_at(
 }
 
 /// The steps of the run that shows a verdict; none where no run does.
-fn steps_of(alloc: Global, image: &Image, witness: &Witness) -> Result<Vec<Step>, AllocError> {
+pub(crate) fn steps_of(
+    alloc: Global,
+    image: &Image,
+    witness: &Witness,
+) -> Result<Vec<Step>, AllocError> {
     match witness {
         Witness::None => Ok(Vec::new(alloc)),
         Witness::Schedule(steps) => Vec::from_slice(alloc, steps),

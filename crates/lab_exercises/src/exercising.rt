@@ -1,13 +1,16 @@
 //! The command `exercise`.
 
 use crate::advice::sentence_on;
-use crate::folders::{Exercise, number_in, read_exercises};
+use crate::failing_pages::{AskedPage, asked_page};
+use crate::folders::{Exercise, read_exercises};
 use crate::hints::push_hint;
 use crate::judging::{QUICK, THOROUGH, judge};
-use crate::listing::{push_line, widest};
-use crate::telling::push_judgement;
+use crate::listing::{ProgramState, push_line, widest};
+use crate::originals::{is_unedited, reset};
+use crate::telling::{folder_option, push_judgement};
+use asked_programs::{WarningChoice, warnings_of};
 use exercise_advice::searches::Console;
-use lab_requests::ExerciseRequest;
+use lab_requests::{ExerciseRequest, ExerciseTask};
 use plain_text::{plain, plural};
 use std::alloc::{AllocError, Global};
 use std::io::{Read, Write};
@@ -17,8 +20,13 @@ use std::thread::Threads;
 use std::time::Clock;
 use submission_rows::parts::{CommandAnswer, Inputs, LabFault, Status};
 
-/// Where exercises are, where nothing else is said.
-const USUAL_FOLDER: &str = "exercises";
+/// The most warnings of `check` that are shown of one program.
+const MOST_WARNINGS: usize = 3;
+
+/// What is said if all are done.
+const ALL_DONE: &str = "\
+These are all. What you have learnt is enough for programs of your own: mta_lab new NAME writes one to begin with.
+";
 
 /// Lists the exercises of a folder with what is done; or judges the program of one, or shows a hint of it.
 pub fn exercise<X: Threads + Sync + Clock, F: Files, R: Read, E: Write>(
@@ -32,22 +40,24 @@ pub fn exercise<X: Threads + Sync + Clock, F: Files, R: Read, E: Write>(
     let Some(word) = request.which else {
         return list(rt, alloc, inputs, request, &exercises, console);
     };
-    let number = number_in(word);
     let place = exercises
         .iter()
-        .position(|one: &Exercise| Some(one.number) == number)
+        .position(|one: &Exercise| one.is_called(word))
         .unwrap_or(exercises.len());
     let Some(found) = exercises.get(place) else {
         return Err(unknown(alloc, request.folder, word)?);
     };
-    if let Some(hint) = request.hint {
-        return show_hint(alloc, inputs, request, found, hint);
-    }
     let asked = AskedExercise {
         exercise: found,
         next: exercises.get(place.saturating_add(1)),
     };
-    tell(rt, alloc, inputs, request, asked, console)
+    match request.task {
+        ExerciseTask::Hint(hint) => show_hint(alloc, inputs, request, found, hint),
+        ExerciseTask::Reset => reset(alloc, inputs, found),
+        ExerciseTask::Judge | ExerciseTask::Page(_) | ExerciseTask::Play(_) => {
+            tell(rt, alloc, inputs, request, asked, console)
+        }
+    }
 }
 
 /// What is said where there is no such exercise.
@@ -69,9 +79,9 @@ fn list<X: Threads + Sync + Clock, F: Files, R: Read, E: Write>(
     let mut done: usize = 0;
     let mut open = None;
     for exercise in exercises.iter() {
-        let judgement = judge(rt, alloc, inputs, exercise, QUICK, console)?;
-        push_line(&mut out, exercise, width, &judgement)?;
-        if judgement.is_right() {
+        let state = state_of(rt, alloc, inputs, exercise, console)?;
+        push_line(&mut out, exercise, width, &state)?;
+        if state.is_done() {
             done = done.saturating_add(1);
         } else if open.is_none() {
             open = Some(exercise);
@@ -79,8 +89,25 @@ fn list<X: Threads + Sync + Clock, F: Files, R: Read, E: Write>(
     }
     let count = exercises.len();
     write!(out, "{done} of {count} are done.\n")?;
+    if open.is_none() {
+        out.push_str(ALL_DONE)?;
+    }
     push_next(alloc, &mut out, request, open)?;
     Ok(CommandAnswer::printed(alloc, out, Status::Done))
+}
+
+/// How far the program of an exercise is; nothing is tried of one that is as it was at first.
+fn state_of<X: Threads + Sync + Clock, F: Files, R: Read, E: Write>(
+    rt: &X,
+    alloc: Global,
+    inputs: &mut Inputs<'_, F, R>,
+    exercise: &Exercise,
+    console: &mut Console<'_, X, E>,
+) -> Result<ProgramState, LabFault> {
+    if is_unedited(alloc, inputs, exercise)? {
+        return Ok(ProgramState::NotBegun);
+    }
+    Ok(ProgramState::Judged(judge(rt, alloc, inputs, exercise, QUICK, console)?))
 }
 
 /// An exercise that is asked for, and the one that comes after it.
@@ -103,16 +130,66 @@ fn tell<X: Threads + Sync + Clock, F: Files, R: Read, E: Write>(
     let judgement = judge(rt, alloc, inputs, exercise, THOROUGH, console)?;
     let mut out = String::new(alloc);
     if judgement.is_right() {
-        push_judgement(alloc, &mut out, exercise, &judgement, None)?;
+        push_judgement(alloc, &mut out, request, exercise, &judgement, None)?;
         push_next(alloc, &mut out, request, next)?;
     } else {
+        show_warnings(alloc, inputs, exercise, console)?;
         let path = exercise.file(alloc, "advice")?;
         let advice = inputs.read(alloc, &path)?;
         let sentence = sentence_on(alloc, &path, &advice, &judgement)?;
-        push_judgement(alloc, &mut out, exercise, &judgement, sentence.as_ref())?;
+        push_judgement(
+            alloc,
+            &mut out,
+            request,
+            exercise,
+            &judgement,
+            sentence.as_ref(),
+        )?;
         push_hint_command(alloc, &mut out, request, exercise, 1)?;
     }
-    Ok(CommandAnswer::printed(alloc, out, judgement.row.status))
+    let page = asked_page(alloc, exercise, &judgement, request.task, console)?;
+    let fault = written_page(alloc, inputs, &mut out, page)?;
+    let mut answer = CommandAnswer::printed(alloc, out, judgement.row.status);
+    answer.fault = fault;
+    Ok(answer)
+}
+
+/// Shows what `check` warns of in the program of an exercise, before what is said of it.
+fn show_warnings<F: Files, R: Read, C: Clock, E: Write>(
+    alloc: Global,
+    inputs: &mut Inputs<'_, F, R>,
+    exercise: &Exercise,
+    console: &mut Console<'_, C, E>,
+) -> Result<(), LabFault> {
+    let path = exercise.file(alloc, "start.asm")?;
+    // (a program that can't be read is said to be so by its verdict)
+    let Ok(text) = inputs.read_or_why(alloc, &path)? else {
+        return Ok(());
+    };
+    let warnings = warnings_of(alloc, &path, &text, WarningChoice::OfProgram, MOST_WARNINGS)?;
+    let _ = console.errors.write_all(warnings.as_bytes());
+    Ok(())
+}
+
+/// Writes the page that is asked for, and says so; or why it is not written.
+fn written_page<F: Files, R: Read>(
+    alloc: Global,
+    inputs: &Inputs<'_, F, R>,
+    out: &mut String,
+    page: AskedPage<'_>,
+) -> Result<Option<LabFault>, AllocError> {
+    match page {
+        AskedPage::NotAsked => Ok(None),
+        AskedPage::Missing(why) => Ok(Some(LabFault::Words(why))),
+        AskedPage::Ready { path, page } => match inputs.write(alloc, path, page.as_bytes()) {
+            Ok(()) => {
+                let file = plain(alloc, path)?;
+                write!(out, "{file}: open it in a browser\n")?;
+                Ok(None)
+            }
+            Err(fault) => Ok(Some(fault)),
+        },
+    }
 }
 
 /// A hint of an exercise, by its number from 1.
@@ -171,13 +248,4 @@ fn push_hint_command(
         out,
         "{which} hint: mta_lab exercise {number} --hint {hint}{folder}\n"
     )
-}
-
-/// The option of the folder, where it is not the usual one.
-fn folder_option(alloc: Global, request: &ExerciseRequest) -> Result<String, AllocError> {
-    if request.folder == USUAL_FOLDER {
-        return Ok(String::new(alloc));
-    }
-    let folder = plain(alloc, request.folder)?;
-    format!(in alloc; " --folder {folder}")
 }

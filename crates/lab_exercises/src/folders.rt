@@ -1,6 +1,6 @@
 //! The exercises of a folder.
 
-use plain_text::plain;
+use plain_text::{file_name, plain};
 use std::alloc::{AllocError, Global};
 use std::io::Read;
 use std::rt::Files;
@@ -30,6 +30,18 @@ impl Exercise {
         let path = self.path.as_str();
         format!(in alloc; "{path}/{name}")
     }
+
+    /// Whether a word is its number, the name of its folder, or this name without the number: `3`, `03_lock`, `lock`.
+    pub(crate) fn is_called(&self, word: &str) -> bool {
+        if let Some(number) = number_in(word) {
+            return number == self.number;
+        }
+        let folder = file_name(&self.path);
+        match folder.split_once('_') {
+            Some((_, name)) => name == word,
+            None => false,
+        }
+    }
 }
 
 /// The exercises of a folder, in the order of their names, one at least: its folders `NUMBER_NAME`.
@@ -49,7 +61,7 @@ pub(crate) fn read_exercises<F: Files, R: Read>(
 }
 
 /// The number of an exercise, by its number or by the name of its folder: `3`, `03_lock`.
-pub(crate) fn number_in(word: &str) -> Option<usize> {
+fn number_in(word: &str) -> Option<usize> {
     let digits = match word.split_once('_') {
         Some((before, _)) => before,
         None => word,

@@ -3,10 +3,12 @@
 
 mod advice;
 mod exercising;
+mod failing_pages;
 mod folders;
 mod hints;
 mod judging;
 mod listing;
+mod originals;
 mod telling;
 
 pub use exercising::exercise;

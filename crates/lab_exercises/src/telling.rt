@@ -3,16 +3,21 @@
 use crate::folders::Exercise;
 use crate::judging::Judgement;
 use exercise_advice::judges::Witness;
+use lab_requests::ExerciseRequest;
 use plain_text::{plain, push_plain};
 use schedule_turns::turns_of;
 use std::alloc::{AllocError, Global};
 use submission_rows::reports::GradeRow;
+
+/// Where exercises are, where nothing else is said.
+const USUAL_FOLDER: &str = "exercises";
 
 /// Adds what is said of a program: the verdict, what shows it or what was looked at, the sentence on it, and commands that
 /// show the run.
 pub(crate) fn push_judgement(
     alloc: Global,
     out: &mut String,
+    request: &ExerciseRequest,
     exercise: &Exercise,
     judgement: &Judgement,
     sentence: Option<&String>,
@@ -31,16 +36,39 @@ pub(crate) fn push_judgement(
     if judgement.is_source_fault() {
         write!(out, "All messages: mta_lab check {path}/start.asm\n")?;
     }
-    push_commands(alloc, out, &path, &judgement.row)
+    let folder = folder_option(alloc, request)?;
+    let shown = ShownExercise {
+        number,
+        path: &path,
+        folder: &folder,
+    };
+    push_commands(alloc, out, shown, &judgement.row)
 }
 
-/// Adds commands that show the run by which a program in the folder of this path is not right, if there is one.
+/// An exercise, as commands name it.
+#[derive(Clone, Copy)]
+struct ShownExercise<'a> {
+    /// Its number.
+    number: usize,
+    /// The path of its folder.
+    path: &'a str,
+    /// The option of the folder of all exercises.
+    folder: &'a str,
+}
+
+/// Adds commands that show the run by which a program is not right, if there is one.
 fn push_commands(
     alloc: Global,
     out: &mut String,
-    path: &str,
+    shown: ShownExercise<'_>,
     row: &GradeRow,
 ) -> Result<(), AllocError> {
+    let ShownExercise {
+        number,
+        path,
+        folder,
+    } = shown;
+    let given = words_option(alloc, path, row)?;
     match &row.witness {
         Witness::None => return Ok(()),
         Witness::Schedule(steps) if steps.is_empty() => return Ok(()),
@@ -51,30 +79,37 @@ fn push_commands(
             }
             write!(
                 out,
-                "' > found.schedule\n  mta_lab view {path}/start.asm found.schedule\n"
+                "' > found.schedule\n  mta_lab view {path}/start.asm found.schedule{given}\n"
             )?;
         }
         Witness::Seed(seed) => write!(
             out,
-            "To look at this run:\n  mta_lab view {path}/start.asm --seed {seed}\n"
+            "To look at this run:\n  mta_lab view {path}/start.asm --seed {seed}{given}\n"
         )?,
     }
-    push_words_of_case(alloc, out, path, row)
-}
-
-/// Adds that a run has the words of a case, if it has.
-fn push_words_of_case(
-    alloc: Global,
-    out: &mut String,
-    path: &str,
-    row: &GradeRow,
-) -> Result<(), AllocError> {
-    let Some(case) = &row.case else {
-        return Ok(());
-    };
-    let case = plain(alloc, case)?;
     write!(
         out,
-        "It has the words of {path}/cases/{case}.data: if your .data lines differ, put these there.\n"
+        "  mta_lab exercise {number} --page run.html{folder}\nTo choose each step yourself: mta_lab exercise {number} --play play.html{folder}\n"
     )
+}
+
+/// The option by which a command takes the words of the case that decides, if one does.
+fn words_option(alloc: Global, path: &str, row: &GradeRow) -> Result<String, AllocError> {
+    let Some(case) = &row.case else {
+        return Ok(String::new(alloc));
+    };
+    let case = plain(alloc, case)?;
+    format!(in alloc; " --given {path}/cases/{case}.data")
+}
+
+/// The option of the folder of all exercises, if it is not the usual one.
+pub(crate) fn folder_option(
+    alloc: Global,
+    request: &ExerciseRequest,
+) -> Result<String, AllocError> {
+    if request.folder == USUAL_FOLDER {
+        return Ok(String::new(alloc));
+    }
+    let folder = plain(alloc, request.folder)?;
+    format!(in alloc; " --folder {folder}")
 }

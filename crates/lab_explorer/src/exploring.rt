@@ -5,7 +5,8 @@ use crate::end_pages::FoundProgram;
 use crate::explored_text::answer_of;
 use crate::graphs::{GraphedSearch, write_graph};
 use crate::written_files::WrittenFiles;
-use command_parts::{CommandAnswer, Inputs, LabFault, Program, read_program, read_steps, style_of};
+use asked_programs::{WarnedProgram, read_warned_program};
+use command_parts::{CommandAnswer, Inputs, LabFault, Program, read_steps, style_of};
 use expectation_files::Requirements;
 use expectation_messages::requirements_of;
 use lab_requests::ExploreRequest;
@@ -25,7 +26,13 @@ pub fn show_every_end<C: Clock, F: Files, R: Read, E: Write>(
     request: &ExploreRequest,
     console: &mut Console<'_, C, E>,
 ) -> Result<CommandAnswer, LabFault> {
-    let program = read_program(alloc, inputs, request.program)?;
+    let WarnedProgram { program, warnings } = read_warned_program(
+        alloc,
+        inputs,
+        request.program,
+        request.given,
+    )?;
+    let _ = console.errors.write_all(warnings.as_bytes());
     let names = ProgramNames::of(alloc, &program.text)?;
     let required = requirements_asked(alloc, inputs, request.expected, &program)?;
     let begin = begin_asked(alloc, inputs, request, &program)?;

@@ -1,9 +1,8 @@
 //! The command `page`.
 
 use crate::answers::page_answer;
-use expectation_messages::parts::{
-    CommandAnswer, Inputs, LabFault, Program, read_program, steps_of,
-};
+use asked_programs::read_asked_program;
+use expectation_messages::parts::{CommandAnswer, Inputs, LabFault, Program, steps_of};
 use lab_requests::{Maker, PageRequest, RunChoice};
 use plain_text::{file_name, stem_of};
 use processor::Step;
@@ -94,7 +93,7 @@ pub(crate) fn run_to_show<F: Files, R: Read>(
     request: &PageRequest,
     most: usize,
 ) -> Result<RunToShow, LabFault> {
-    let program = read_program(alloc, inputs, request.program)?;
+    let program = read_asked_program(alloc, inputs, request.program, request.given)?;
     let steps = steps_of(alloc, inputs, &program, request.run)?;
     check_length(alloc, request.out, steps.len(), most)?;
     Ok(RunToShow { program, steps })

@@ -1,10 +1,9 @@
 //! The command `play`.
 
 use crate::answers::page_answer;
+use asked_programs::read_asked_program;
 use expectation_files::Requirements;
-use expectation_messages::parts::{
-    CommandAnswer, Inputs, LabFault, Program, read_program, read_steps,
-};
+use expectation_messages::parts::{CommandAnswer, Inputs, LabFault, Program, read_steps};
 use expectation_messages::requirements_of;
 use lab_requests::PlayRequest;
 use lab_texts::ProgramNames;
@@ -39,7 +38,7 @@ pub fn write_play_page<C: Clock, F: Files, R: Read, E: Write>(
     request: &PlayRequest,
     console: &mut Console<'_, C, E>,
 ) -> Result<CommandAnswer, LabFault> {
-    let program = read_program(alloc, inputs, request.program)?;
+    let program = read_asked_program(alloc, inputs, request.program, request.given)?;
     let names = ProgramNames::of(alloc, &program.text)?;
     let required = requirements_asked(alloc, inputs, request, &program)?;
     let begin = begin_asked(alloc, inputs, request, &program)?;

@@ -1,17 +1,6 @@
 //! What a command line of `mta_lab` asks for.
 
-/// The kinds of files that `check` judges.
-#[derive(Clone, Copy, Debug, PartialEq, Eq)]
-pub enum FileKind {
-    /// A source text.
-    Source,
-    /// An image's bytes.
-    Image,
-    /// A schedule's text.
-    Schedule,
-    /// A file of expectations.
-    Expectations,
-}
+use crate::file_requests::{CheckRequest, ExerciseRequest, LayoutRequest};
 
 /// A rule that makes schedules.
 #[derive(Clone, Copy, Debug, PartialEq, Eq)]
@@ -42,26 +31,13 @@ pub struct Shown {
     pub json: bool,
 }
 
-/// What `check` is asked.
-#[derive(Drop)]
-pub struct CheckRequest<'a> {
-    /// The files, one at least.
-    pub files: Vec<&'a str>,
-    /// The kind of all of them; None where each is told by its beginning and its name.
-    pub kind: Option<FileKind>,
-    /// The program whose schedules these are, and of which the expectations are.
-    pub program: Option<&'a str>,
-    /// Warnings count as errors.
-    pub strict: bool,
-    /// Messages are JSON, an object a line.
-    pub json: bool,
-}
-
 /// What `view` is asked.
 #[derive(Clone, Copy, Debug)]
 pub struct ViewRequest<'a> {
     /// The program: a source text or an image.
     pub program: &'a str,
+    /// The file of the words of a case, which take the place of the program's own; None: its own.
+    pub given: Option<&'a str>,
     /// Its schedule.
     pub run: RunChoice<'a>,
     /// The first step that is shown, from 1.
@@ -85,6 +61,8 @@ pub struct ViewRequest<'a> {
 pub struct PageRequest<'a> {
     /// The program: a source text or an image.
     pub program: &'a str,
+    /// The file of the words of a case, which take the place of the program's own; None: its own.
+    pub given: Option<&'a str>,
     /// Its schedule.
     pub run: RunChoice<'a>,
     /// The schedule of a second run, which a page shows beside the first; None where it shows one run.
@@ -107,6 +85,8 @@ pub const MOST_PLAYED: usize = 100_000;
 pub struct PlayRequest<'a> {
     /// The program: a source text or an image.
     pub program: &'a str,
+    /// The file of the words of a case, which take the place of the program's own; None: its own.
+    pub given: Option<&'a str>,
     /// The file of what each end has to be, and what is claimed of each world.
     pub expected: Option<&'a str>,
     /// The file of the schedule that all schedules begin with.
@@ -139,6 +119,8 @@ pub struct Bounds {
 pub struct SurveyRequest<'a> {
     /// The program: a source text or an image.
     pub program: &'a str,
+    /// The file of the words of a case, which take the place of the program's own; None: its own.
+    pub given: Option<&'a str>,
     /// How many seeds, at least 1.
     pub seeds: usize,
     /// The first of them.
@@ -158,6 +140,8 @@ pub struct SurveyRequest<'a> {
 pub struct ExploreRequest<'a> {
     /// The program: a source text or an image.
     pub program: &'a str,
+    /// The file of the words of a case, which take the place of the program's own; None: its own.
+    pub given: Option<&'a str>,
     /// The file of what each end has to be, and what is claimed of each world.
     pub expected: Option<&'a str>,
     /// The file of the schedule that all schedules begin with.
@@ -272,26 +256,6 @@ pub struct MergeRequest<'a> {
     pub undecided: Undecided,
 }
 
-/// What `exercise` is asked.
-#[derive(Clone, Copy, Debug)]
-pub struct ExerciseRequest<'a> {
-    /// The folder of the exercises.
-    pub folder: &'a str,
-    /// The number of an exercise, or the name of its folder; None: all are listed.
-    pub which: Option<&'a str>,
-    /// The hint that is shown, from 1; None: its program is judged.
-    pub hint: Option<usize>,
-}
-
-/// What `fmt` is asked.
-#[derive(Drop)]
-pub struct LayoutRequest<'a> {
-    /// The source texts; none, or `-` alone, is standard input.
-    pub files: Vec<&'a str>,
-    /// Nothing is written: which files would change is told alone.
-    pub checks: bool,
-}
-
 /// When lines for people have colours.
 #[derive(Clone, Copy, Debug, PartialEq, Eq)]
 pub enum Colours {
@@ -328,6 +292,7 @@ pub enum LabCommand<'a> {
     /// Goes to and fro in a run, by the lines of standard input.
     Debug {
         program: &'a str,
+        given: Option<&'a str>,
         run: RunChoice<'a>,
     },
     /// Answers the requests of an editor that debugs.
@@ -337,6 +302,7 @@ pub enum LabCommand<'a> {
     /// Shows where two schedules of a program part.
     Compare {
         program: &'a str,
+        given: Option<&'a str>,
         one: RunChoice<'a>,
         other: RunChoice<'a>,
         shown: Shown,

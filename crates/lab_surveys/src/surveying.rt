@@ -4,7 +4,8 @@ use crate::coverage::push_every_schedule;
 use crate::missed_work::push_missed_work;
 use crate::outcome_words::{OutcomeWords, words_of_outcomes};
 use crate::survey_objects::{SurveyInput, broken_words, push_outcome_objects};
-use command_parts::{CommandAnswer, Inputs, LabFault, read_program, style_of};
+use asked_programs::{WarnedProgram, read_warned_program};
+use command_parts::{CommandAnswer, Inputs, LabFault, style_of};
 use expectation_files::Requirements;
 use expectation_messages::requirements_of;
 use lab_requests::{Bounds, SurveyRequest};
@@ -36,7 +37,13 @@ pub fn survey<X: Threads + Sync, C: Clock, F: Files, R: Read, E: Write>(
     if let Some(path) = request.expected {
         text = inputs.read(alloc, path)?;
     }
-    let program = read_program(alloc, inputs, request.program)?;
+    let WarnedProgram { program, warnings } = read_warned_program(
+        alloc,
+        inputs,
+        request.program,
+        request.given,
+    )?;
+    let _ = console.errors.write_all(warnings.as_bytes());
     let names = ProgramNames::of(alloc, &program.text)?;
     let required = match request.expected {
         Some(path) => requirements_of(alloc, path, &text, &program)?,

@@ -1,8 +1,9 @@
 //! The command `compare`.
 
 use crate::run_status::status_of_run;
+use asked_programs::read_asked_program;
 use command_parts::{
-    CommandAnswer, Inputs, LabFault, Program, Status, push_object, read_program, steps_of, style_of,
+    CommandAnswer, Inputs, LabFault, Program, Status, push_object, steps_of, style_of,
 };
 use image_machines::{by_room, loaded};
 use lab_ends::push_findings_of_run;
@@ -20,16 +21,18 @@ use step_views::StepView;
 use stream_core::Outcome;
 use whole_runs::{Difference, first_difference, run_views};
 
-/// Shows where two schedules of a program part, where the worlds first differ, and both ends.
+/// Shows where two schedules of a program part, where the worlds first differ, and both ends. With the file of a case's words
+/// the program has these.
 pub fn compare<F: Files, R: Read>(
     alloc: Global,
     inputs: &mut Inputs<'_, F, R>,
     path: &str,
+    given: Option<&str>,
     one: RunChoice,
     other: RunChoice,
     shown: Shown,
 ) -> Result<CommandAnswer, LabFault> {
-    let program = read_program(alloc, inputs, path)?;
+    let program = read_asked_program(alloc, inputs, path, given)?;
     let first = steps_of(alloc, inputs, &program, one)?;
     let second = steps_of(alloc, inputs, &program, other)?;
     let (output, status) = by_room!(

@@ -2,8 +2,9 @@
 
 use crate::folding::StepLines;
 use crate::run_status::status_of_run;
+use asked_programs::read_asked_program;
 use command_parts::{
-    CommandAnswer, Inputs, LabFault, Program, Status, push_object, read_program, steps_of, style_of,
+    CommandAnswer, Inputs, LabFault, Program, Status, push_object, steps_of, style_of,
 };
 use image_file::Image;
 use image_machines::{by_room, loaded};
@@ -42,7 +43,7 @@ pub fn view<F: Files, R: Read>(
         None => None,
     };
     check_range(alloc, request)?;
-    let program = read_program(alloc, inputs, request.program)?;
+    let program = read_asked_program(alloc, inputs, request.program, request.given)?;
     check_stream(alloc, stream, &program.image)?;
     let word = match request.word {
         Some(text) => Some(word_named(alloc, text, &program)?),

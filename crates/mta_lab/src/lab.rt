@@ -157,13 +157,17 @@ fn run_command<X: Threads + Wait + Sync + Clock, F: Files, R: Read + Send, W: Wr
     match command {
         LabCommand::Adapt => adapt(rt, alloc, inputs.files, inputs.input, outputs.output),
         LabCommand::ServeLanguage => serve_language(rt, alloc, inputs.input, outputs.output),
-        LabCommand::Debug { program, run } => {
+        LabCommand::Debug {
+            program,
+            given,
+            run,
+        } => {
             let mut screen = Screen {
                 output: &mut *outputs.output,
                 errors: &mut *outputs.errors,
                 is_prompted: outputs.terminals.input,
             };
-            debug(alloc, inputs, program, *run, &mut screen)
+            debug(alloc, inputs, program, *given, *run, &mut screen)
         }
         LabCommand::Check(_)
         | LabCommand::Schedule { .. }
@@ -229,10 +233,11 @@ fn answer_to<X: Threads + Wait + Sync + Clock, F: Files, R: Read, W: Write, E: W
         LabCommand::View(request) => view(alloc, inputs, request),
         LabCommand::Compare {
             program,
+            given,
             one,
             other,
             shown,
-        } => compare(alloc, inputs, program, *one, *other, *shown),
+        } => compare(alloc, inputs, program, *given, *one, *other, *shown),
         // (these have their own way of writing)
         LabCommand::Debug { .. } | LabCommand::Adapt | LabCommand::ServeLanguage => {
             Err(LabFault::Closed)

@@ -8,7 +8,6 @@ use expectation_files::{FileFault, Requirements};
 use expectation_messages::parts::{Inputs, LabFault, Program};
 use grade_reports::GradeRow;
 use grade_reports::judges::{Case, SubmissionJudgement, image_by, required_by};
-use image_file::Image;
 use lab_requests::GradeRequest;
 use search_texts::searches::Console;
 use std::alloc::{AllocError, Global};
@@ -31,8 +30,8 @@ pub struct JudgedAlone {
 /// What decides a verdict, as values.
 #[derive(Drop)]
 pub struct DecidedByCase {
-    /// The program, with the cells of the case that decides.
-    pub image: Image,
+    /// The program, with the words of the case that decides.
+    pub program: Program,
     /// What this case requires of it; nothing if it lacks what a line names.
     pub required: Requirements,
     /// What is known of it by all cases.
@@ -98,7 +97,7 @@ fn decided_by(
         Err(FileFault::Line { .. } | FileFault::Empty) => Requirements::none(alloc),
     };
     Ok(Some(DecidedByCase {
-        image,
+        program: Program { text, image },
         required,
         judgement,
     }))

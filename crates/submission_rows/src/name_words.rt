@@ -2,10 +2,9 @@
 
 use crate::case_words::CaseText;
 use crate::report_lines::absent_line;
+use asked_programs::lacking_words;
 use grade_reports::judges::Case;
-use source_places::{DataName, SourcePlaces};
 use std::alloc::{AllocError, Global};
-use std::str;
 
 /// Says that a submission of this text lacks the words of a name, which has this place among those of a case's
 /// cells.
@@ -16,32 +15,8 @@ pub(crate) fn add_lacking(
     text: &[u8],
     shown: &mut CaseText,
 ) -> Result<(), AllocError> {
-    let given = SourcePlaces::of(alloc, &case.given)?;
-    let own = SourcePlaces::of(alloc, text)?;
-    let Some(named) = given.data_names().get(name) else {
-        return Ok(());
-    };
-    let word = str::from_utf8(named.name).unwrap_or("");
-    let called = called_so(own.data_names(), named);
-    shown.words = match called {
-        Some(other) => {
-            let (count, needed) = (other.count, named.count);
-            format!(in alloc;
-                "the case gives {needed} words to the name {word}, and here it has {count}"
-            )?
-        }
-        None => format!(in alloc;
-            "the case gives the word {word}, and no data word has this name alone"
-        )?,
-    };
+    shown.words = lacking_words(alloc, &case.given, name, text)?;
     Ok(())
-}
-
-/// That of some names which is this one; None if there is none.
-fn called_so<'a, 't>(names: &'a [DataName<'t>], named: &DataName<'_>) -> Option<&'a DataName<'t>> {
-    names
-        .iter()
-        .find(|name: &&DataName<'_>| name.name == named.name)
 }
 
 /// Says that a line of a case speaks of a word which the case does not give, or which stands elsewhere in the
