@@ -33,7 +33,7 @@ _mta_lab_options() {
     asm) echo '--out --color --help' ;;
     explain) echo '--color --help' ;;
     word) echo '--color --help' ;;
-    new) echo '--color --help' ;;
+    new) echo '--from --color --help' ;;
     *)
       echo 'check fmt schedule view debug dap lsp compare survey explore grade exercise page picture play asm
         explain word new --color --help --version'
@@ -55,6 +55,7 @@ _mta_lab_value() {
     *' --given') echo 'files .data' ;;
     'explore --from' | 'play --from' | 'view 2' | 'debug 2' | 'compare 2' | 'compare 3' | 'page 2' | 'page 3' | \
       'picture 2') echo 'files .schedule' ;;
+    'new --from') echo 'words lock semaphore mailbox ticket barrier switch' ;;
     *' --expect') echo 'files .expect' ;;
     *' --keep' | *' --pages' | *' --cases' | *' --feedback' | *' --folder') echo 'folders' ;;
     *' --dot') echo 'files .dot' ;;

@@ -91,6 +91,7 @@ complete -c mta_lab -n '__fish_seen_subcommand_from picture' -l out -r -k -a '(_
 complete -c mta_lab -n '__fish_seen_subcommand_from play' -l states -x -d 'the most states of the page, 1 to 100000 [100000]'
 complete -c mta_lab -n '__fish_seen_subcommand_from play' -l goal -x -a 'right wrong deadlock stopped spinning broken' -d 'the first goal: right, wrong, deadlock, stopped, spinning, broken, or the number of an end [none]'
 complete -c mta_lab -n '__fish_seen_subcommand_from asm' -l out -r -k -a '(__fish_complete_suffix .image)' -d 'the image file [the source\'s name, with .image]'
+complete -c mta_lab -n '__fish_seen_subcommand_from new' -l from -x -a 'lock semaphore mailbox ticket barrier switch' -d 'what it shows: lock, semaphore, mailbox, ticket, barrier or switch [a count]'
 complete -c mta_lab -l color -x -a 'auto always never' -d 'colours, auto: on a terminal, unless NO_COLOR is set [auto]'
 complete -c mta_lab -l help -f -d 'prints help'
 complete -c mta_lab -n __fish_use_subcommand -l version -f -d 'prints the version'

@@ -88,3 +88,23 @@ def warned_answers():
         for name, program, is_shown in (("never holds", NEVER, True), ("is lost", LOST, False)):
             yield (f"{' '.join(command)}: {name}",
                    lambda c=command, p=program, s=is_shown: is_warned(c, p, s))
+
+
+IDIOMS = ("lock", "semaphore", "mailbox", "ticket", "barrier", "switch")
+
+
+def is_right(idiom):
+    """A program of `new` is right by every schedule, and check says nothing of it; it claims something of all states."""
+    with tempfile.TemporaryDirectory(prefix="mta-case-") as folder:
+        made = lab("new", "first", "--from", idiom, folder=folder)
+        checked = lab("check", "--strict", "first.asm", "first.expect", folder=folder)
+        found = lab("explore", "first.asm", "--expect", "first.expect", folder=folder)
+        with open(os.path.join(folder, "first.expect"), encoding="ascii") as file:
+            claims = [line for line in file if line.startswith(("always ", "never ", "some "))]
+    return ((0, 0, b"", 0, True, True),
+            (made.status, checked.status, checked.err, found.status, b"complete" in found.out, len(claims) > 0))
+
+
+@checks.others("lab/first programs")
+def first_programs():
+    return [(f"new --from {idiom}", lambda idiom=idiom: is_right(idiom)) for idiom in IDIOMS]

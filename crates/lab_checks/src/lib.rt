@@ -4,6 +4,7 @@
 
 mod assembling;
 mod checking;
+mod first_programs;
 mod layouts;
 mod mendings;
 mod messages;

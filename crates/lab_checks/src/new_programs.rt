@@ -1,36 +1,21 @@
 //! The command `new`.
 
+use crate::first_programs::first_program;
 use command_parts::{CommandAnswer, Inputs, LabFault, NewFile, Status};
+use lab_requests::Idiom;
 use plain_text::plain;
 use std::alloc::Global;
 use std::io::Read;
 use std::rt::Files;
 
-/// A program of two processors that count.
-const PROGRAM: &str = "\
-; two processors add to one count
-        .slim 1
-        .entry start
-        .entry start
-        .data 0                 ; [0] the count
-
-start:  LIT r1, 1
-        FADD.N r1, r0, 0        ; [0] becomes [0] + 1, at once
-        QUIT
-";
-
-/// What each of its ends has to be.
-const EXPECTED: &str = "\
-word 0 2                # both have counted
-finished                # all streams have finished
-";
-
-/// Writes a program to begin with, and what each of its ends has to be, where nothing has these names: both or none.
+/// Writes a program to begin with, which shows this or counts, and what each of its ends has to be, where nothing has these names: both or none.
 pub fn start_program<F: Files, R: Read>(
     alloc: Global,
     inputs: &mut Inputs<'_, F, R>,
     name: &str,
+    idiom: Option<Idiom>,
 ) -> Result<CommandAnswer, LabFault> {
+    let first = first_program(idiom);
     let stem = name.strip_suffix(".asm").unwrap_or(name);
     let source = format!(in alloc; "{stem}.asm")?;
     let expected = format!(in alloc; "{stem}.expect")?;
@@ -45,17 +30,18 @@ pub fn start_program<F: Files, R: Read>(
         &[
             NewFile {
                 path: &source,
-                bytes: PROGRAM.as_bytes(),
+                bytes: first.source.as_bytes(),
             },
             NewFile {
                 path: &expected,
-                bytes: EXPECTED.as_bytes(),
+                bytes: first.expected.as_bytes(),
             },
         ],
     )?;
     let (source, expected) = (plain(alloc, &source)?, plain(alloc, &expected)?);
+    let about = first.about;
     let told = format!(in alloc;
-        "{source}: a program of two processors\n{expected}: what each of its ends has to be\nnext: mta_lab explore {source} --expect {expected}\n"
+        "{source}: {about}\n{expected}: what each of its ends has to be\nnext: mta_lab explore {source} --expect {expected}\n"
     )?;
     Ok(CommandAnswer::printed(alloc, told, Status::Done))
 }

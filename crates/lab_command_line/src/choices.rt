@@ -1,7 +1,7 @@
 //! The words that arguments take, and what each means, in the same order. What a word is read as, what help lists and what
 //! the completions offer are these.
 
-use lab_requests::{Colours, FileKind, GradeFormat, Undecided};
+use lab_requests::{Colours, FileKind, GradeFormat, Idiom, Undecided};
 
 /// The words for the kinds of files that `check` judges.
 pub(crate) const KIND_WORDS: [&str; 4] = ["source", "image", "schedule", "expectations"];
@@ -38,6 +38,26 @@ pub(crate) const COLOUR_WORDS: [&str; 3] = ["auto", "always", "never"];
 
 /// When they have.
 pub(crate) const COLOURS: [Colours; 3] = [Colours::Auto, Colours::Always, Colours::Never];
+
+/// The words for what a program of `new` shows.
+pub(crate) const IDIOM_WORDS: [&str; 6] = [
+    "lock",
+    "semaphore",
+    "mailbox",
+    "ticket",
+    "barrier",
+    "switch",
+];
+
+/// What it shows.
+pub(crate) const IDIOMS: [Idiom; 6] = [
+    Idiom::Lock,
+    Idiom::Semaphore,
+    Idiom::Mailbox,
+    Idiom::Ticket,
+    Idiom::Barrier,
+    Idiom::Switch,
+];
 
 /// A rule by which `schedule` makes schedules.
 #[derive(Clone, Copy, PartialEq, Eq)]

@@ -1,7 +1,7 @@
 //! The commands over files alone: their arguments, in the order of the help, and what they ask.
 
 use crate::arguments::{Argument, Form, Presence};
-use crate::choices::{KIND_WORDS, KINDS};
+use crate::choices::{IDIOM_WORDS, IDIOMS, KIND_WORDS, KINDS};
 use crate::options::{EXERCISES, MOST_HINTS, chosen, text, word, words};
 use crate::shared_arguments::JSON;
 use crate::values::{PAGE_FILE, PROGRAM_FILE, SOURCE_FILE, ValueKind};
@@ -59,11 +59,18 @@ pub(crate) const WORD_ARGUMENTS: [Argument; 1] = [Argument(
 )];
 
 /// Of `new`.
-pub(crate) const NEW_ARGUMENTS: [Argument; 1] = [Argument(
-    "NAME",
-    "the program's name: NAME.asm and NAME.expect are written",
-    Form::Needed(ValueKind::Text),
-)];
+pub(crate) const NEW_ARGUMENTS: [Argument; 2] = [
+    Argument(
+        "NAME",
+        "the program's name: NAME.asm and NAME.expect are written",
+        Form::Needed(ValueKind::Text),
+    ),
+    Argument(
+        "from",
+        "what it shows: lock, semaphore, mailbox, ticket, barrier or switch [a count]",
+        Form::Option("IDIOM", ValueKind::OneOf(&IDIOM_WORDS), Presence::Free),
+    ),
+];
 
 /// Of `asm`.
 pub(crate) const ASM_ARGUMENTS: [Argument; 2] = [
@@ -162,6 +169,7 @@ pub(crate) fn explain_of<'a>(
 pub(crate) fn new_of<'a>(found: &ArgMatches<'a>) -> LabCommand<'a> {
     LabCommand::New {
         name: word(found, "NAME"),
+        idiom: chosen(found, "from", &IDIOM_WORDS, &IDIOMS),
     }
 }
 

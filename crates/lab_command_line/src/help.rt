@@ -20,6 +20,13 @@ Example:
   mta_lab survey lock.asm --seeds 100
   mta_lab view lock.asm --seed 7";
 
+/// What is said of a line that is the program's name alone.
+pub(crate) const FIRST_COMMANDS: &str = "\
+there is no command. To begin with:
+  mta_lab new count                                writes a program, and what its ends have to be
+  mta_lab explore count.asm --expect count.expect  shows every end that its schedules can reach
+  mta_lab exercise                                 lists programs to write, and which are done";
+
 pub(crate) const CHECK: &str = "\
 Judges source texts, images, schedules and files of expectations. Each message is a line
 FILE:LINE:COLUMN: error: WORDS. The source line follows, with a mark under the spot, and how to
@@ -204,10 +211,12 @@ Examples:
 
 pub(crate) const NEW: &str = "\
 Writes NAME.asm, a program of two processors to begin with, and NAME.expect, which says what each
-of its ends has to be. It never writes over a file.
+of its ends has to be. With --from it is a lock, a semaphore that does not poll, a mailbox, a ticket
+lock, a barrier, or a switch by which a group shares a room. It never writes over a file.
 
-Example:
-  mta_lab new count";
+Examples:
+  mta_lab new count
+  mta_lab new door --from ticket";
 
 pub(crate) const PAGE: &str = "\
 Writes a page that shows a run, for a browser: the lanes of streams and words over time, the

@@ -4,6 +4,7 @@ use crate::choices::{COLOUR_WORDS, COLOURS};
 use crate::commands::{CommandName, command_called};
 use crate::file_commands::{asm_of, check_of, exercise_of, explain_of, layout_of, new_of, word_of};
 use crate::foreign_words::refusal_of;
+use crate::help;
 use crate::many_runs_commands::{explore_of, grading_of, survey_of};
 use crate::options::chosen;
 use crate::parsers::lab_parser;
@@ -28,6 +29,9 @@ pub fn read_lab_command<'a, S: AsStr>(
     line: &'a [S],
     foreign: &ForeignNames,
 ) -> Result<LabCall<'a>, Error> {
+    if line.len() <= 1 {
+        return Err(refused(alloc, help::FIRST_COMMANDS)?);
+    }
     if let Some(program) = mistyped_program(line) {
         let words = format!(in alloc; "to run a program, type: mta_lab view {program}")?;
         return Err(refused(alloc, words.as_str())?);

@@ -62,3 +62,20 @@ pub struct LayoutRequest<'a> {
     /// Nothing is written: which files would change is told alone.
     pub checks: bool,
 }
+
+/// A way of working together, of which `new` writes a program to begin with.
+#[derive(Clone, Copy, Debug, PartialEq, Eq)]
+pub enum Idiom {
+    /// One stream at a time is inside.
+    Lock,
+    /// So many streams at a time are inside.
+    Semaphore,
+    /// One stream hands values over to another.
+    Mailbox,
+    /// Streams are served in the order of arrival.
+    Ticket,
+    /// Nobody goes on before all have come.
+    Barrier,
+    /// The first stream of a group locks for all of them, and the last one unlocks.
+    Switch,
+}

@@ -4,7 +4,9 @@
 mod file_requests;
 mod requests;
 
-pub use file_requests::{CheckRequest, ExerciseRequest, ExerciseTask, FileKind, LayoutRequest};
+pub use file_requests::{
+    CheckRequest, ExerciseRequest, ExerciseTask, FileKind, Idiom, LayoutRequest,
+};
 pub use requests::{
     Bounds, Colours, ExploreRequest, GradeCases, GradeFormat, GradeRequest, LabCall, LabCommand,
     MOST_PLAYED, Maker, MergeRequest, PageRequest, PlayRequest, RunChoice, Shown, SurveyRequest,

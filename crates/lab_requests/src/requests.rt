@@ -1,6 +1,6 @@
 //! What a command line of `mta_lab` asks for.
 
-use crate::file_requests::{CheckRequest, ExerciseRequest, LayoutRequest};
+use crate::file_requests::{CheckRequest, ExerciseRequest, Idiom, LayoutRequest};
 
 /// A rule that makes schedules.
 #[derive(Clone, Copy, Debug, PartialEq, Eq)]
@@ -336,6 +336,7 @@ pub enum LabCommand<'a> {
     /// Writes a program to begin with, of this name.
     New {
         name: &'a str,
+        idiom: Option<Idiom>,
     },
     /// Assembles a source text.
     Assemble {

@@ -253,7 +253,7 @@ fn answer_to<X: Threads + Wait + Sync + Clock, F: Files, R: Read, W: Write, E: W
         LabCommand::Explain { words } => explain(alloc, words),
         LabCommand::Word { words } => show_word(alloc, words),
         LabCommand::LayOut(request) => lay_out(alloc, inputs, request),
-        LabCommand::New { name } => start_program(alloc, inputs, name),
+        LabCommand::New { name, idiom } => start_program(alloc, inputs, name, *idiom),
         LabCommand::Assemble { source, image } => assemble_file(alloc, inputs, source, *image),
     }
 }
