@@ -1,5 +1,8 @@
 //! Where the name of a label stands in a text.
 
+ghost use Rattle.std.specs.Prelude.{◌≡◌};
+ghost use Rattle.std.specs.List.{list_any};
+
 use crate::words::{LineWord, WordRole, words_of};
 use asm_line::{Directive, names};
 use insn_word::{ControlOp, WideOp};
@@ -115,6 +118,12 @@ fn push_places(
 }
 
 /// Whether a label stands at one of these places.
-pub fn declares(places: &[NamePlace]) -> bool {
-    places.iter().any(|place| place.is_label)
+pub fn declares(places: &[NamePlace]) -> bool
+    ensures { result ≡ list_any (λ p. p.is_label) places.now }
+{
+    places.iter().any(
+        |place: &NamePlace| -> bool
+            ensures { result ≡ place.now.is_label }
+        { place.is_label },
+    )
 }

@@ -1,10 +1,11 @@
 //! Another name for a label.
 
-ghost use Rattle.std.specs.Prelude.{IfOk, IsTrue};
+ghost use Rattle.std.specs.Prelude.{◌≡◌, ◌<◌, length, IfOk, IsTrue, None};
+ghost use Rattle.std.specs.List.{All};
 ghost use Rattle.editor_texts.specs.Edits.{edited, edits_seen};
 ghost use Rattle.source_layout.specs.SameMeaning.{MeanOneImage};
 
-use crate::label_places::{declares, places_of_name};
+use crate::label_places::{NamePlace, declares, places_of_name};
 use editor_texts::{TextEdit, edited};
 use source_layout::mean_one_image;
 use std::alloc::{AllocError, Global};
@@ -25,8 +26,8 @@ pub enum RenameFault {
     OtherImage,
 }
 
-/// The edits after which a label has another name, wherever it stands and is used: the text then means the same image.
-/// Only memory can be missing.
+/// The edits after which a label has another name, wherever it stands and is used: each puts the new name in the place of the
+/// old one, one does at least, and the text then means the same image. Only memory can be missing.
 pub fn rename_edits(
     alloc: Global,
     text: &[u8],
@@ -34,21 +35,33 @@ pub fn rename_edits(
     new: &[u8],
 ) -> Result<Result<Vec<TextEdit>, RenameFault>, AllocError>
     ensures image { IfOk result (λ r. IfOk r (λ es. MeanOneImage (edited 0 text.now (edits_seen es.items)) text.now)) }
+    ensures some { IfOk result (λ r. IfOk r (λ es. 0 < length es.items)) }
+    ensures names { IfOk result (λ r. IfOk r (λ es. All (λ e. e.text.items ≡ new.now) es.items)) }
 {
-    match fault_of(alloc, text, name, new)? {
-        Some(fault) => Ok(Err(fault)),
-        None => kept_edits(alloc, text, new_names(alloc, text, name, new)?),
+    let places = places_of_name(alloc, text, name)?;
+    if let Some(fault) = fault_of(alloc, text, &places, name, new)? {
+        return Ok(Err(fault));
+    }
+    let edits = new_names(alloc, &places, new)?;
+    if keep_image(alloc, text, &edits)? {
+        Ok(Ok(edits))
+    } else {
+        Ok(Err(RenameFault::OtherImage))
     }
 }
 
-/// Why a label can't have another name, as the names alone say it.
+/// Why a label, whose name stands at these places, can't have another name, as the names alone say it.
+#[tactic(auto, using(crate::proofs::Places::some_place))]
 fn fault_of(
     alloc: Global,
     text: &[u8],
+    places: &[NamePlace],
     name: &[u8],
     new: &[u8],
-) -> Result<Option<RenameFault>, AllocError> {
-    if !declares(&places_of_name(alloc, text, name)?) {
+) -> Result<Option<RenameFault>, AllocError>
+    ensures { IfOk result (λ o. o ≡ None → 0 < length places.now) }
+{
+    if !declares(places) {
         return Ok(Some(RenameFault::NoLabel));
     }
     if !is_name(new) {
@@ -58,21 +71,6 @@ fn fault_of(
         return Ok(Some(RenameFault::Taken));
     }
     Ok(None)
-}
-
-/// These edits, where the text means the same image after them.
-fn kept_edits(
-    alloc: Global,
-    text: &[u8],
-    edits: Vec<TextEdit>,
-) -> Result<Result<Vec<TextEdit>, RenameFault>, AllocError>
-    ensures image { IfOk result (λ r. IfOk r (λ es. MeanOneImage (edited 0 text.now (edits_seen es.items)) text.now)) }
-{
-    if keep_image(alloc, text, &edits)? {
-        Ok(Ok(edits))
-    } else {
-        Ok(Err(RenameFault::OtherImage))
-    }
 }
 
 /// Whether a text means the same image after edits.
@@ -92,12 +90,14 @@ fn keep_image(alloc: Global, text: &[u8], edits: &[TextEdit]) -> Result<bool, Al
 /// An edit for each place of a label's name.
 fn new_names(
     alloc: Global,
-    text: &[u8],
-    name: &[u8],
+    places: &[NamePlace],
     new: &[u8],
-) -> Result<Vec<TextEdit>, AllocError> {
+) -> Result<Vec<TextEdit>, AllocError>
+    ensures count { IfOk result (λ v. length v.items ≡ length places.now) }
+    ensures names { IfOk result (λ v. All (λ e. e.text.items ≡ new.now) v.items) }
+{
     let mut edits = Vec::new(alloc);
-    for place in places_of_name(alloc, text, name)? {
+    for place in places {
         edits.push(TextEdit {
             start: place.start,
             end: place.start.saturating_add(place.width),
