@@ -88,11 +88,7 @@ fn keep_image(alloc: Global, text: &[u8], edits: &[TextEdit]) -> Result<bool, Al
 }
 
 /// An edit for each place of a label's name.
-fn new_names(
-    alloc: Global,
-    places: &[NamePlace],
-    new: &[u8],
-) -> Result<Vec<TextEdit>, AllocError>
+fn new_names(alloc: Global, places: &[NamePlace], new: &[u8]) -> Result<Vec<TextEdit>, AllocError>
     ensures count { IfOk result (λ v. length v.items ≡ length places.now) }
     ensures names { IfOk result (λ v. All (λ e. e.text.items ≡ new.now) v.items) }
 {
