@@ -267,9 +267,11 @@ def lists(solved, tried):
 
 def by_name(exercise):
     """An exercise is found by its name too."""
-    calls = [lab("exercise", word, "--hint", "1", folder=table.ROOT)
-             for word in (str(int(exercise[:2])), exercise, exercise[3:])]
-    return [calls[0]] * 3, calls
+    said = []
+    for word in (str(int(exercise[:2])), exercise, exercise[3:]):
+        call = lab("exercise", word, "--hint", "1", folder=table.ROOT)
+        said.append((call.status, call.out, call.err))
+    return [said[0]] * 3, said
 
 
 def writes_page(option, texts):

@@ -24,9 +24,14 @@ COMMANDS = [
 ]
 
 
+def of_replaced(text):
+    """A text that quotes the program, as of the program with the other word."""
+    return text.replace(b".data 5", b".data 9")
+
+
 def answer(program, words, given, written, more=()):
-    """What a command says of a program in a folder of its own, and what it writes. The text of the program is on a page too:
-    there its words are written as those that replace them."""
+    """What a command says of a program in a folder of its own, and what it writes. The text of the program is in JSON and on
+    a page too: there its words are written as those that replace them."""
     with tempfile.TemporaryDirectory(prefix="mta-case-") as folder:
         tool.write(os.path.join(folder, "p.asm"), program.encode())
         tool.write(os.path.join(folder, "p.expect"), b"word here 9\nword 8 10\nfinished\n")
@@ -37,7 +42,7 @@ def answer(program, words, given, written, more=()):
         if written:
             with open(os.path.join(folder, written), "rb") as file:
                 page = file.read()
-    return said.status, said.out, said.err, page.replace(b".data 5", b".data 9")
+    return said.status, of_replaced(said.out), said.err, of_replaced(page)
 
 
 def is_same(command, rest, given, written, words):
