@@ -1,5 +1,5 @@
 -- When a fix mends a text.
-use Rattle.std.specs.Prelude.{◌≡◌, ◌<◌, ℕ, Bool, false, List, is_err}
+use Rattle.std.specs.Prelude.{◌≡◌, ◌<◌, ℕ, false, List, is_err}
 use Rattle.std.specs.List.{count_by}
 use Rattle.asm_text.specs.Sources.{meaning_of}
 use Rattle.fault_messages.specs.declared.message.Message.{Message}

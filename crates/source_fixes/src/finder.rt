@@ -90,13 +90,12 @@ impl<'t> FixFinder<'t> {
         ensures text { self.new.text.now ≡ self.old.text.now }
         ensures before { self.new.before.items ≡ self.old.before.items }
     {
-        let mut count = 0;
-        for _ in 0..wanted {
-            if self.bytes_left >= self.text.len() {
-                self.bytes_left -= self.text.len();
-                count += 1;
-            }
-        }
+        let length = self.text.len();
+        let count = match self.bytes_left.checked_div(length) {
+            Some(most) => wanted.min(most),
+            None => wanted,
+        };
+        self.bytes_left = self.bytes_left.saturating_sub(count.saturating_mul(length));
         if wanted > 0 {
             self.messages_left = self.messages_left.saturating_sub(1);
         }

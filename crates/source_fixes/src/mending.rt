@@ -10,15 +10,6 @@ use source_checks::{SourceText, source_messages};
 use source_faults::check_source;
 use std::alloc::{AllocError, Global};
 
-/// Whether there is no error among some messages.
-fn is_error_free(messages: &[Message]) -> bool
-    ensures { IsTrue result → has_error messages.now ≡ false }
-{
-    !messages
-        .iter()
-        .any(|message| message.severity == Severity::Error)
-}
-
 /// How many of some messages are errors.
 fn errors_in(messages: &[Message]) -> usize
     ensures { result ≡ errors_in messages.now }
@@ -27,6 +18,15 @@ fn errors_in(messages: &[Message]) -> usize
         .iter()
         .filter(|message| message.severity == Severity::Error)
         .count()
+}
+
+/// Whether there is no error among some messages.
+#[tactic(auto, using(crate::proofs::Fewer::no_error))]
+fn is_error_free(messages: &[Message]) -> bool
+    ensures { IsTrue result → has_error messages.now ≡ false }
+{
+    let errors = errors_in(messages);
+    errors == 0
 }
 
 /// How many messages `check` has of a text.
