@@ -77,7 +77,7 @@ def given_words():
 
 
 # a condition that never holds, and a result that is lost, of which nothing is said above an answer
-NEVER = " .entry go\n .data 0\ngo: ADD r2, r1, 3\n SKIP EQ, 0, go\n QUIT\n"
+NEVER = " .entry go\n .data 0\ngo: ADD r2, r1, 3\n SKIP EQ, 0, out\n LIT r3, 1\nout: QUIT\n"
 LOST = " .entry go\n .data 0\ngo: ADD r0, r1, 3\n QUIT\n"
 
 

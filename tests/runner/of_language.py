@@ -143,16 +143,16 @@ def actions():
         name, base, changed = row.fields[:3]
         yield name, lambda base=base, changed=changed: all_fixed(of_slips.program(base, changed).decode())
     yield "letters beyond ASCII", lambda: all_fixed(TEXT.replace("        LOAD.S", "        LOAD.X") + " QUITE ; \u00e4 \U0001f600\n")
-    with client("        QUITE\n") as session:
+    with client(" .entry 0\n .data 0\n        QUITE\n") as session:
         def titles(first, last, **context):
             return [it["title"] for it in session.of("codeAction", **spans(first, last), context={"diagnostics": [], **context})]
 
-        yield "a fix", ["write QUIT"], titles(0, 0)
+        yield "a fix", ["write QUIT"], titles(2, 2)
         yield "on its line", ["write QUIT"], titles(0, 9)
         yield "on another line", [], titles(1, 1)
-        yield "quick fixes alone", ["write QUIT"], titles(0, 0, only=["refactor", "quickfix"])
-        yield "no quick fixes", [], titles(0, 0, only=["source.organizeImports"])
-        yield "no kind", [], titles(0, 0, only=[])
+        yield "quick fixes alone", ["write QUIT"], titles(2, 2, only=["refactor", "quickfix"])
+        yield "no quick fixes", [], titles(2, 2, only=["source.organizeImports"])
+        yield "no kind", [], titles(2, 2, only=[])
         yield "no lines", -32602, session.error("textDocument/codeAction", textDocument={"uri": URI}, context={})[0]
 
 
@@ -199,10 +199,10 @@ def mark():
         yield "as many as check has", len(lab("check", "--json", "-", given=(MARK + text).encode()).out.splitlines()), len(found)
         label = {side: {"line": 0, "character": at} for side, at in (("start", 1), ("end", 6))}
         yield "a label of the first line", label, session.at("definition", 1, 26)["range"]
-        edits = session.at("rename", 0, 1, newName="once")["changes"][URI]
-        yield "another name", MARK + text.replace("again", "once"), languages.edited(MARK + text, edits)
         loose = text.replace("QUITE", " QUIT")
         session.changes(MARK + loose)
+        edits = session.at("rename", 0, 1, newName="once")["changes"][URI]
+        yield "another name", MARK + loose.replace("again", "once"), languages.edited(MARK + loose, edits)
         edits = session.of("formatting", options={"tabSize": 8, "insertSpaces": True})
         yield "the layout", MARK + text.replace("QUITE", "QUIT"), languages.edited(MARK + loose, edits)
 
@@ -381,10 +381,10 @@ def many_changes():
         session.version += 5
         session.changes(TEXT + " QUITE\n QUITS\n")
         yield "changes", wanted(TEXT + " QUITE\n QUITS\n"), session.diagnostics(session.version)
-        session.changes("        QUITE\n")
-        found = session.of("codeAction", **spans(0, 0), context={"diagnostics": []})
+        session.changes(" .entry 0\n .data 0\n        QUITE\n")
+        found = session.of("codeAction", **spans(2, 2), context={"diagnostics": []})
         yield "asked at once", ["write QUIT"], [it["title"] for it in found]
-        yield "and its diagnostics", wanted("        QUITE\n"), session.diagnostics(session.version)
+        yield "and its diagnostics", wanted(" .entry 0\n .data 0\n        QUITE\n"), session.diagnostics(session.version)
         session.notify("textDocument/didClose", {"textDocument": {"uri": URI}})
         yield "closed", [], session.diagnostics()
         yield "and then not there", -32602, session.error("textDocument/hover", **place_of(0, 9))[0]

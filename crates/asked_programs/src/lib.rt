@@ -4,12 +4,12 @@
 
 mod cells_files;
 mod given_words;
-mod lacking_words;
+mod lacking_names;
 mod reading;
 mod warnings;
 
 pub use cells_files::cells_of;
 pub use given_words::image_with_words;
-pub use lacking_words::lacking_words;
+pub use lacking_names::lacking_words;
 pub use reading::{WarnedProgram, read_asked_program, read_warned_program};
 pub use warnings::{WarningChoice, warnings_of};
