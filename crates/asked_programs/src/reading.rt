@@ -2,7 +2,7 @@
 
 use crate::cells_files::cells_of;
 use crate::given_words::image_with_words;
-use crate::lacking_words::lacking_words;
+use crate::lacking_names::lacking_words;
 use crate::warnings::{WarningChoice, warnings_of};
 use case_cells::name_lacking;
 use command_parts::{Inputs, LabFault, Program, program_of, read_program};
