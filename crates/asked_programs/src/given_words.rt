@@ -23,5 +23,6 @@ pub fn image_with_words(
     }) }
 {
     let places = places_by_name(alloc, given, &program.text)?;
-    image_with_cells(alloc, &program.image, &places, cells)
+    let image = image_with_cells(alloc, &program.image, &places, cells)?;
+    Ok(image)
 }
