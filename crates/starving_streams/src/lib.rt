@@ -1,0 +1,13 @@
+//! Streams that can wait forever, in the worlds of a search that has all.
+#![tactic(auto)]
+
+mod edges;
+mod graphs;
+mod places;
+mod reports;
+mod standings;
+mod starving;
+mod targets;
+
+pub use reports::{Starving, StarvingStreams};
+pub use starving::starving_streams;
