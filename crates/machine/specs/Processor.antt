@@ -1,0 +1,5 @@
+-- Definitions of processor that callers name, passed on.
+pub use Rattle.processor.specs.Processors
+pub use Rattle.processor.specs.Records
+pub use Rattle.processor.specs.Row
+pub use Rattle.processor.specs.World
