@@ -1,4 +1,5 @@
 -- Definitions of processor that callers name, passed on.
+pub use Rattle.processor.specs.OtherStreams
 pub use Rattle.processor.specs.Processors
 pub use Rattle.processor.specs.Records
 pub use Rattle.processor.specs.Row
