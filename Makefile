@@ -192,6 +192,7 @@ install:
 	install -D -m 755 $(LAB) $(DESTDIR)$(PREFIX)/bin/mta_lab
 	install -D -m 644 share/man/man1/mta_sim.1 $(SHARE)/man/man1/mta_sim.1
 	install -D -m 644 share/man/man1/mta_lab.1 $(SHARE)/man/man1/mta_lab.1
+	packaging/date_pages.sh $(SHARE)/man/man1 "$$(git log -1 --format=%ct)"
 	install -D -m 644 share/completions/mta_sim.bash $(SHARE)/bash-completion/completions/mta_sim
 	install -D -m 644 share/completions/mta_lab.bash $(SHARE)/bash-completion/completions/mta_lab
 	install -D -m 644 share/completions/_mta_sim $(SHARE)/zsh/site-functions/_mta_sim
@@ -208,6 +209,7 @@ install:
 	cp -r editors/vim/. $(SHARE)/vim/vimfiles
 	cp -r editors/vim/. $(SHARE)/nvim/site
 	install -D -m 644 editors/emacs/mta-mode.el $(SHARE)/emacs/site-lisp/mta-mode.el
+	install -D -m 644 editors/kate/mta.xml $(SHARE)/org.kde.syntax-highlighting/syntax/mta.xml
 	install -m 644 README.md CONTRIBUTING.md CHANGELOG.md $(SHARE)/doc/mta_sim
 	install -m 644 docs/*.md $(SHARE)/doc/mta_sim/docs
 	test ! -e out/TRUST.md || install -m 644 out/TRUST.md $(SHARE)/doc/mta_sim/docs
@@ -223,7 +225,7 @@ uninstall:
 	for folder in vim/vimfiles nvim/site; do \
 	  for file in ftdetect/mta.vim ftplugin/mta.vim syntax/mta.vim compiler/mta_lab.vim; do rm -f $(SHARE)/$$folder/$$file; done; \
 	done
-	rm -f $(SHARE)/emacs/site-lisp/mta-mode.el
+	rm -f $(SHARE)/emacs/site-lisp/mta-mode.el $(SHARE)/org.kde.syntax-highlighting/syntax/mta.xml
 	rm -rf $(SHARE)/doc/mta_sim $(SHARE)/mta_sim
 
 clean:

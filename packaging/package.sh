@@ -94,6 +94,7 @@ lay_out_archive() {
   mkdir -p "$1/bin"
   git archive HEAD README.md CONTRIBUTING.md CHANGELOG.md docs examples exercises editors share ':(exclude)share/make' ':(exclude)editors/make' | tar -x -C "$1"
   python3 tests/trust "$1/docs/TRUST.md"
+  packaging/date_pages.sh "$1/share/man/man1" "$SOURCE_DATE_EPOCH"
   for name in $programs; do
     strip_symbols "$(built "$name")" "$1/bin/$name"
   done
@@ -119,11 +120,12 @@ lay_out_debian() {
   done
   # the words of mta_lab debug, which rlwrap completes
   install -D -m 644 "$from/share/completions/mta_lab.rlwrap" "$share/rlwrap/completions/mta_lab"
-  # where Vim, Neovim and Emacs look
+  # where Vim, Neovim, Emacs and Kate look
   mkdir -p "$share/vim/vimfiles" "$share/nvim/site" "$share/emacs/site-lisp"
   cp -r "$from/editors/vim/." "$share/vim/vimfiles"
   cp -r "$from/editors/vim/." "$share/nvim/site"
   cp "$from/editors/emacs/mta-mode.el" "$share/emacs/site-lisp"
+  install -D -m 644 "$from/editors/kate/mta.xml" "$share/org.kde.syntax-highlighting/syntax/mta.xml"
   # Debian has the changes packed, under a name of its own
   sed 's/CHANGELOG\.md/changelog.gz/' "$from/README.md" >"$doc/README.md"
   cp -r "$from/CONTRIBUTING.md" "$from/docs" "$from/examples" "$from/exercises" "$from/pages" "$from/editors" "$from/BUILD" "$doc"

@@ -33,7 +33,55 @@ fn reads_lines(command: &LabCommand) -> bool {
 fn standard_inputs(command: &LabCommand) -> usize {
     match command {
         LabCommand::Check(request) => of_check(request),
+        LabCommand::Grade(request) => of_grade(request),
+        LabCommand::Merge(request) => count_in(&request.results),
+        LabCommand::LayOut(request) => count_in(&request.files),
+        LabCommand::Schedule { .. }
+        | LabCommand::Survey(_)
+        | LabCommand::Explore(_)
+        | LabCommand::Play(_)
+        | LabCommand::Assemble { .. } => of_program_files(command),
+        LabCommand::View(_)
+        | LabCommand::Debug { .. }
+        | LabCommand::Compare { .. }
+        | LabCommand::Page(_)
+        | LabCommand::Picture(_) => of_runs(command),
+        LabCommand::Adapt
+        | LabCommand::ServeLanguage
+        | LabCommand::Exercise(_)
+        | LabCommand::Explain { .. }
+        | LabCommand::Word { .. }
+        | LabCommand::New { .. } => 0,
+    }
+}
+
+/// The same of a command that takes many of a program's runs, or none.
+fn of_program_files(command: &LabCommand) -> usize {
+    match command {
         LabCommand::Schedule { program, .. } => count_of(&[Some(*program)]),
+        LabCommand::Survey(request) => {
+            count_of(&[Some(request.program), request.given, request.expected])
+        }
+        LabCommand::Explore(request) => count_of(&[
+            Some(request.program),
+            request.given,
+            request.expected,
+            request.from,
+        ]),
+        LabCommand::Play(request) => count_of(&[
+            Some(request.program),
+            request.given,
+            request.expected,
+            request.from,
+        ]),
+        LabCommand::Assemble { source, .. } => count_of(&[Some(*source)]),
+        _ => 0,
+    }
+}
+
+/// The same of a command that shows a run of a program, or two.
+fn of_runs(command: &LabCommand) -> usize {
+    match command {
         LabCommand::View(request) => {
             count_of(&[Some(request.program), request.given, file_of(request.run)])
         }
@@ -49,37 +97,13 @@ fn standard_inputs(command: &LabCommand) -> usize {
             other,
             ..
         } => count_of(&[Some(*program), *given, file_of(*one), file_of(*other)]),
-        LabCommand::Survey(request) => {
-            count_of(&[Some(request.program), request.given, request.expected])
-        }
-        LabCommand::Explore(request) => count_of(&[
-            Some(request.program),
-            request.given,
-            request.expected,
-            request.from,
-        ]),
-        LabCommand::Grade(request) => of_grade(request),
-        LabCommand::Merge(request) => count_in(&request.results),
         LabCommand::Page(request) | LabCommand::Picture(request) => count_of(&[
             Some(request.program),
             request.given,
             file_of(request.run),
             request.other.and_then(file_of),
         ]),
-        LabCommand::Play(request) => count_of(&[
-            Some(request.program),
-            request.given,
-            request.expected,
-            request.from,
-        ]),
-        LabCommand::LayOut(request) => count_in(&request.files),
-        LabCommand::Assemble { source, .. } => count_of(&[Some(*source)]),
-        LabCommand::Adapt
-        | LabCommand::ServeLanguage
-        | LabCommand::Exercise(_)
-        | LabCommand::Explain { .. }
-        | LabCommand::Word { .. }
-        | LabCommand::New { .. } => 0,
+        _ => 0,
     }
 }
 
