@@ -77,6 +77,7 @@ fn standard_inputs(command: &LabCommand) -> usize {
         LabCommand::Adapt
         | LabCommand::ServeLanguage
         | LabCommand::Exercise(_)
+        | LabCommand::Gallery(_)
         | LabCommand::Explain { .. }
         | LabCommand::Word { .. }
         | LabCommand::New { .. } => 0,
