@@ -1,8 +1,6 @@
 //! What a command line of `mta_lab` asks for.
 
-use crate::file_requests::{
-    CheckRequest, ExerciseRequest, GalleryRequest, Idiom, LayoutRequest,
-};
+use crate::file_requests::{CheckRequest, ExerciseRequest, GalleryRequest, Idiom, LayoutRequest};
 
 /// A rule that makes schedules.
 #[derive(Clone, Copy, Debug, PartialEq, Eq)]
