@@ -1,5 +1,9 @@
 //! The levels of a gallery: lines `CARD/PROGRAM GOAL: TASK`, or of an example `CARD GOAL: TASK`.
 
+ghost use Rattle.std.specs.Prelude.{◌≡◌};
+ghost use Rattle.std.specs.List.{position};
+ghost use Rattle.lab_exercises.specs.Levels.{is_of_card};
+
 use plain_text::plain;
 use std::alloc::{AllocError, Global};
 use std::str;
@@ -96,9 +100,13 @@ fn level_in(line: usize, text: &str) -> Option<Level<'_>> {
     })
 }
 
-/// The place of the level of a card; None if it has none.
-pub(crate) fn level_of(levels: &[Level<'_>], card: &str) -> Option<usize> {
-    levels
-        .iter()
-        .position(|level: &Level<'_>| level.card == card)
+/// The place of the first level of a card; None if it has none.
+pub(crate) fn level_of(levels: &[Level<'_>], card: &str) -> Option<usize>
+    ensures { result ≡ position (is_of_card card.now) levels.now }
+{
+    levels.iter().position(
+        |level: &Level<'_>| -> bool
+            ensures { result ≡ is_of_card card.entry.now level.now }
+        { level.card == card },
+    )
 }
