@@ -75,17 +75,10 @@ pages() {
   done
 }
 
-# play_pages FOLDER: beside these a page of each example on which the reader is the scheduler; those that are named here
-# have more states than a page may have
-play_pages() {
-  local source name
-  for source in "$1"/examples/*.asm; do
-    name=$(basename "$source" .asm)
-    case $name in
-      barrier | bounded_buffer | philosophers | readers_writer) ;;
-      *) "$(built mta_lab)" play "$source" --out "$1/pages/$name.play.html" >/dev/null ;;
-    esac
-  done
+# gallery FOLDER: beside these the gallery of the examples and exercises there, with a page of each on which the reader is the
+# scheduler
+gallery() {
+  "$(built mta_lab)" gallery "$1/pages" --exercises "$1/exercises" --examples "$1/examples" >/dev/null
 }
 
 # the tree of the archive: the programs in bin/, and the rest as it lies in the repository
@@ -99,7 +92,7 @@ lay_out_archive() {
     strip_symbols "$(built "$name")" "$1/bin/$name"
   done
   pages "$1"
-  play_pages "$1"
+  gallery "$1"
   packaging/build_facts.sh "$version" "$1/bin" $programs >"$1/BUILD"
   copyright >"$1/COPYRIGHT"
   settle "$1"

@@ -73,6 +73,7 @@ function goalLine(e) {
   const how = view.at === fewest ? `the fewest that any schedule${begins} needs` : `the fewest are ${fewest}`;
   const best = won.get(e);
   if (!view.hints && (best === undefined || view.at < best)) won.set(e, view.at);
+  keepReached(e, view.at);
   return [html("li", { class: "won" }, `${steps(view.at)}, ${how}${helped}.`)];
 }
 

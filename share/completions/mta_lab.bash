@@ -30,13 +30,14 @@ _mta_lab_options() {
     page) echo '--given --seeds --fair --rounds --seed --steps --title --out --color --help' ;;
     picture) echo '--given --fair --rounds --seed --steps --from --to --title --out --color --help' ;;
     play) echo '--given --expect --from --states --title --goal --out --color --help' ;;
+    gallery) echo '--exercises --examples --color --help' ;;
     asm) echo '--out --color --help' ;;
     explain) echo '--color --help' ;;
     word) echo '--color --help' ;;
     new) echo '--from --color --help' ;;
     *)
-      echo 'check fmt schedule view debug dap lsp compare survey explore grade exercise page picture play asm
-        explain word new --color --help --version'
+      echo 'check fmt schedule view debug dap lsp compare survey explore grade exercise page picture play gallery
+        asm explain word new --color --help --version'
       ;;
   esac
 }
@@ -57,7 +58,8 @@ _mta_lab_value() {
       'picture 2') echo 'files .schedule' ;;
     'new --from') echo 'words lock semaphore mailbox ticket barrier switch' ;;
     *' --expect') echo 'files .expect' ;;
-    *' --keep' | *' --pages' | *' --cases' | *' --feedback' | *' --folder') echo 'folders' ;;
+    *' --keep' | *' --pages' | *' --cases' | *' --feedback' | *' --folder' | *' --exercises' | *' --examples' | \
+      'gallery 1') echo 'folders' ;;
     *' --dot') echo 'files .dot' ;;
     *' --format') echo 'words text tsv json junit gradescope moodle' ;;
     *' --undecided') echo 'words right wrong' ;;

@@ -251,6 +251,17 @@ Examples:
   mta_lab play lock.asm --out lock.html --expect lock.expect
   mta_lab play dinner.asm --out dinner.html --goal deadlock";
 
+pub(crate) const GALLERY: &str = "\
+Writes pages of all examples and exercises into a folder, and index.html, which leads to them: a
+card for each, with a picture, what it teaches, a page on which you are the scheduler, the run in
+which it goes wrong, and all ends. Of an exercise it shows one wrong program, and no solution.
+Levels in an order ask you to break each. The browser keeps which of them you have done. The pages
+need no network: put the folder on any web server, or open index.html.
+
+Examples:
+  mta_lab gallery pages
+  mta_lab gallery pages --examples . --exercises exercises";
+
 pub(crate) const PROGRAM: &str = "the program: a source text or an image";
 
 pub(crate) const FAIR: &str = "the processors step in turn, and within each its streams";

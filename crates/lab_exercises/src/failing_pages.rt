@@ -138,7 +138,7 @@ fn name_of(alloc: Global, exercise: &Exercise, row: &GradeRow) -> Result<String,
 }
 
 /// How a page says that the run is not right: by the line that it misses, if one says it.
-fn verdict_of<'r>(decided: &DecidedByCase, row: &'r GradeRow) -> RunVerdict<'r> {
+pub(crate) fn verdict_of<'r>(decided: &DecidedByCase, row: &'r GradeRow) -> RunVerdict<'r> {
     let missed = match row.cases.get(decided.judgement.worst) {
         Some(case) => case.missed.as_ref(),
         None => None,

@@ -54,6 +54,17 @@ pub struct ExerciseRequest<'a> {
     pub task: ExerciseTask<'a>,
 }
 
+/// What `gallery` is asked.
+#[derive(Clone, Copy, Debug)]
+pub struct GalleryRequest<'a> {
+    /// The folder that it is written into.
+    pub folder: &'a str,
+    /// The folder of the exercises.
+    pub exercises: &'a str,
+    /// The folder of the examples.
+    pub examples: &'a str,
+}
+
 /// What `fmt` is asked.
 #[derive(Drop)]
 pub struct LayoutRequest<'a> {

@@ -6,7 +6,7 @@ use lab_adapter::adapt;
 use lab_checks::{assemble_file, check, explain, lay_out, make_schedule, show_word, start_program};
 use lab_command_line::read_lab_command;
 use lab_debugger::{Screen, debug};
-use lab_exercises::exercise;
+use lab_exercises::{exercise, write_gallery};
 use lab_explorer::show_every_end;
 use lab_grades::{grade, merge};
 use lab_language::serve_language;
@@ -181,6 +181,7 @@ fn run_command<X: Threads + Wait + Sync + Clock, F: Files, R: Read + Send, W: Wr
         | LabCommand::Page(_)
         | LabCommand::Picture(_)
         | LabCommand::Play(_)
+        | LabCommand::Gallery(_)
         | LabCommand::Explain { .. }
         | LabCommand::Word { .. }
         | LabCommand::LayOut(_)
@@ -250,6 +251,7 @@ fn answer_to<X: Threads + Wait + Sync + Clock, F: Files, R: Read, W: Write, E: W
         LabCommand::Page(request) => write_page(alloc, inputs, request),
         LabCommand::Picture(request) => write_picture(alloc, inputs, request),
         LabCommand::Play(request) => write_play_page(alloc, inputs, request, console),
+        LabCommand::Gallery(request) => write_gallery(rt, alloc, inputs, request, console),
         LabCommand::Explain { words } => explain(alloc, words),
         LabCommand::Word { words } => show_word(alloc, words),
         LabCommand::LayOut(request) => lay_out(alloc, inputs, request),

@@ -62,6 +62,7 @@ fn is_for_people(command: &LabCommand) -> bool {
         | LabCommand::Page(_)
         | LabCommand::Picture(_)
         | LabCommand::Play(_)
+        | LabCommand::Gallery(_)
         | LabCommand::Explain { .. }
         | LabCommand::Word { .. }
         | LabCommand::LayOut(_)

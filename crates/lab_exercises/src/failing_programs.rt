@@ -1,0 +1,60 @@
+//! Programs that are not right, with the run that shows it.
+
+use crate::advice::steps_of;
+use crate::failing_pages::verdict_of;
+use crate::folders::Exercise;
+use crate::judging::{THOROUGH, judge_file};
+use exercise_advice::searches::Console;
+use processor::Step;
+use replay_page::RunVerdict;
+use std::alloc::Global;
+use std::io::{Read, Write};
+use std::rt::Files;
+use std::thread::Threads;
+use std::time::Clock;
+use submission_rows::DecidedByCase;
+use submission_rows::parts::{Inputs, LabFault};
+use submission_rows::reports::GradeRow;
+
+/// A program that is not right.
+#[derive(Drop)]
+pub(crate) struct FailingProgram {
+    /// The program, with the words of the case that decides, and what this requires.
+    pub decided: DecidedByCase,
+    /// The steps of the run by which it is not right, one at least.
+    pub steps: Vec<Step>,
+    /// What is said of it.
+    row: GradeRow,
+}
+
+impl FailingProgram {
+    /// How a page says that the run is not right.
+    pub(crate) fn verdict(&self) -> RunVerdict<'_> {
+        verdict_of(&self.decided, &self.row)
+    }
+}
+
+/// The program of a file, judged by the cases of an exercise and every schedule, with the run by which it is not right;
+/// None if no run shows that.
+pub(crate) fn failing_program<X: Threads + Sync + Clock, F: Files, R: Read, E: Write>(
+    rt: &X,
+    alloc: Global,
+    inputs: &mut Inputs<'_, F, R>,
+    exercise: &Exercise,
+    path: &str,
+    console: &mut Console<'_, X, E>,
+) -> Result<Option<FailingProgram>, LabFault> {
+    let judged = judge_file(rt, alloc, inputs, exercise, path, THOROUGH, console)?;
+    let Some(decided) = judged.decided else {
+        return Ok(None);
+    };
+    let steps = steps_of(alloc, &decided.program.image, &judged.row.witness)?;
+    if steps.is_empty() {
+        return Ok(None);
+    }
+    Ok(Some(FailingProgram {
+        decided,
+        steps,
+        row: judged.row,
+    }))
+}
