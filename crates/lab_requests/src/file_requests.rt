@@ -41,6 +41,8 @@ pub enum ExerciseTask<'a> {
     Play(&'a str),
     /// Its program becomes what it was before the first edit.
     Reset,
+    /// Its program is judged again each time that its file changes.
+    Watch,
 }
 
 /// What `exercise` is asked.
