@@ -131,6 +131,11 @@ word ADDRESS is|above|below VALUE, word ADDRESS full|empty, or at most N of P.S 
 above and below compare signed if VALUE has a sign (-1, +3), or if signed follows it (below 0
 signed). Else a word is a number from 0 on: -1 is above 5, and none is below 0.
 
+--waiting also says who can wait forever. It explores all states, and looks for rounds: steps that
+come back to the same state, and so can be taken again and again. A round is fair by words if each
+stream that runs has a step in it, and each that is not always blocked completes one. A stream can
+wait forever if it is blocked at each of its steps in such a round.
+
 --keep FOLDER writes the schedule to each end as FOLDER/1.schedule and so on. --pages FOLDER writes
 the page of its run (mta_lab page --help), as FOLDER/1_deadlock.html and so on.
 
@@ -139,6 +144,7 @@ says which ends can still be reached, and the schedules to the ends are bold. --
 
 Examples:
   mta_lab explore lock.asm
+  mta_lab explore lock.asm --waiting
   mta_lab explore race.asm --plain --dot race.dot && dot -Tsvg race.dot > race.svg";
 
 pub(crate) const GRADE: &str = "\

@@ -150,6 +150,8 @@ pub struct ExploreRequest<'a> {
     pub bounds: Bounds,
     /// Whether all worlds are looked for, also where the ends need fewer.
     pub is_plain: bool,
+    /// Whether it is asked who can wait forever, among all worlds.
+    pub asks_who_waits: bool,
     /// The folder for the shortest schedules.
     pub keep: Option<&'a str>,
     /// The folder for the pages of their runs.
