@@ -18,15 +18,15 @@ _mta_lab_options() {
         --help'
       ;;
     explore)
-      echo '--given --expect --from --states --seconds --memory --plain --keep --pages --dot --hex --json --color
-        --help'
+      echo '--given --expect --from --states --seconds --memory --plain --waiting --keep --pages --dot --hex --json
+        --color --help'
       ;;
     grade)
       echo '--expect --cases --given --require-names --seeds --steps --all --explore --thorough --states --seconds
         --memory --jobs --no-links --pages --format --undecided --feedback --hex --json --results --part --merge
         --color --help'
       ;;
-    exercise) echo '--hint --page --play --reset --folder --color --help' ;;
+    exercise) echo '--hint --page --play --reset --watch --folder --color --help' ;;
     page) echo '--given --seeds --fair --rounds --seed --steps --title --out --color --help' ;;
     picture) echo '--given --fair --rounds --seed --steps --from --to --title --out --color --help' ;;
     play) echo '--given --expect --from --states --title --goal --out --color --help' ;;
@@ -81,7 +81,7 @@ _mta_lab_value() {
         .chain E1 NotAscii E2 Unknown E3 Operand E4 Range E5 TwoWriters E6 LabelTwice E7 LabelMissing E8 Directive
         E9 Limit E10 NoMemory 101 102 103 104 105 106 107 108 109 110 111 112 113 114 115 116 LOAD STORE FADD TAGGET
         TAGSET PURGE 1 PROGRAM 2 ILLEGAL 3 TRAP3 4 TRAP4 POINTER 5 ALIGN 6 RANGE 7 TRAP0 8 TRAP1 9 FORWARD 10 TRAP10
-        DONE BLOCKED TRAPPED STOPPED SKIPPED deadlock spinning'
+        DONE BLOCKED TRAPPED STOPPED SKIPPED deadlock starvation starving starve fairness fair livelock spinning'
       ;;
   esac
 }

@@ -7,6 +7,10 @@ mod explored_objects;
 mod explored_text;
 mod exploring;
 mod graphs;
+mod waiting;
+mod waiting_files;
+mod waiting_objects;
+mod waiting_text;
 mod written_files;
 
 pub use exploring::show_every_end;
