@@ -1,7 +1,7 @@
 // ---------------------------------------------------------------- goals that were reached, for the gallery's page
 
-/** Keeps in the browser that a goal was reached in so many steps, if that is the fewest yet; gallery/reached.js reads
-  it. A browser that keeps nothing for a page is asked in vain. */
+/** Keeps in the browser that an end of a kind was reached in so many steps, by one who had a goal, if these are the
+  fewest yet; gallery/reached.js reads it. A browser that keeps nothing for a page is asked in vain. */
 function keepReached(e, n) {
   try {
     const key = `mta_lab ${kinds[e]} ${data.name}`;

@@ -66,6 +66,7 @@ function scheduleSteps(text) {
 
 function goalLine(e) {
   if (view.goal === null) return [];
+  if (!view.shown) keepReached(e, view.at);
   const fewest = data.ends[view.goal].shortest;
   if (e !== view.goal) return [html("li", { class: "won" }, `Your goal is another: ${goalText(view.goal)}.`)];
   if (view.shown) return [html("li", {}, "This was shown to you. Now find a way yourself: start again.")];
@@ -73,7 +74,6 @@ function goalLine(e) {
   const how = view.at === fewest ? `the fewest that any schedule${begins} needs` : `the fewest are ${fewest}`;
   const best = won.get(e);
   if (!view.hints && (best === undefined || view.at < best)) won.set(e, view.at);
-  keepReached(e, view.at);
   return [html("li", { class: "won" }, `${steps(view.at)}, ${how}${helped}.`)];
 }
 

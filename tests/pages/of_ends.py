@@ -56,9 +56,10 @@ CASES = {
 STORES_TWICE = "stores: LIT r1, 5\n STORE.N r1, r0, 0\n STORE.N r1, r0, 1\n STORE.N r1, r0, 1\n LIT r1, 6\n QUIT\n"
 TAKES_IT = "takes: LIT r1, 5\n STORE.N r1, r0, 0\n LOAD.S r2, r0, 0\n LIT r1, 6\n QUIT\n"
 COUNTS = "counts: LOAD.N r1, r0, 0\n ADD r1, r1, 1\n STORE.N r1, r0, 0\n QUIT\n"
+GOES_ON = COUNTS.replace(" QUIT", " LIT r1, 9\n QUIT")
 # by a name: the program, the schedule, the line that the end misses, and the step after which the page opens
 MISSED = {
-    # of word 1 it is the last store of it, in step 4, and not the unread store of it before, nor the last step
+    # of word 1 it is the last store of it, in step 4, and not the one before, nor the last step
     "stores": (program(FULL * 2, STORES_TWICE), "0 0 6\n", "word 8 7", 4),
     # of word 0 the only one
     "stores_before": (program(FULL * 2, STORES_TWICE), "0 0 6\n", "word [0] 7", 2),
@@ -73,10 +74,12 @@ MISSED = {
     "lost": (program(FULL, COUNTS, COUNTS.replace("counts", "again")), "0 0 1\n1 0 1\n0 0 3\n1 0 3\n", "word 0 2", 7),
     # nobody has stored in the word: the last step
     "not_stored": (program(FULL * 3, GOES), "0 0 3\n", "word 16 7", 3),
-    # the schedule ends where the claim does not hold, and not at the unread store of step 4
-    "claim": (program(FULL * 2, STORES_TWICE), "0 0 5\n", "always word 0 is 0", 5),
+    # the schedule ends where the claim does not hold: the last step, and not the lost update of step 8
+    "claim": (program(FULL, GOES_ON, GOES_ON.replace("counts", "again")), "0 0 1\n1 0 1\n0 0 4\n1 0 3\n",
+              "always word 0 is 0", 9),
     # a claim of a run that goes on to its end: its state is not known, and the page opens by what was found
-    "claim_before": (program(FULL * 2, STORES_TWICE), "0 0 6\n", "always word 0 is 0", 4),
+    "claim_before": (program(FULL, GOES_ON, GOES_ON.replace("counts", "again")), "0 0 1\n1 0 1\n0 0 4\n1 0 4\n",
+                     "always word 0 is 0", 8),
 }
 # the step after which the page stands, the title, and what the pictures of the end say to who hears them
 SHOWN = """

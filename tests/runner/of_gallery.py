@@ -150,8 +150,10 @@ def folders():
         yield "a page that can't be written", (1, b"mta_lab: made/lock.play.html: ", False), \
             (said.status, said.err[:30], os.path.exists(os.path.join(folder, "made", "index.html")))
     with folder_of() as folder:
-        shutil.copy(os.path.join(folder, "exercises", "03_lock", "solution.asm"),
-                    os.path.join(folder, "exercises", "01_hand_over", "wrong", "a_first.asm"))
+        shutil.copy(os.path.join(EXAMPLES, "count.asm"), os.path.join(folder, "examples", "03_lock.asm"))
+        said = lab("gallery", "made", folder=folder)
+        yield "one name twice", (1, b"mta_lab: 03_lock: an exercise and an example have this name\n"), (said.status, said.err)
+    with folder_of() as folder:
         tool.write(os.path.join(folder, "exercises", "01_hand_over", "wrong", "a_first.asm"),
                    text_of("01_hand_over", "solution.asm").encode())
         said = lab("gallery", "made", folder=folder)

@@ -22,6 +22,9 @@ pub(crate) const ADVICE: &str = "; --examples says where the examples are";
 /// The schedule by which nothing goes wrong.
 const ENDS: &str = "ends";
 
+/// What is said of a level that names a program of an example.
+const ONE_PROGRAM: &str = "an example has one program: its name stands alone";
+
 /// The card of an example, whose pages are written.
 pub(crate) fn example_card<C: Clock, F: Files, R: Read, E: Write>(
     alloc: Global,
@@ -31,6 +34,11 @@ pub(crate) fn example_card<C: Clock, F: Files, R: Read, E: Write>(
     name: &str,
     console: &mut Console<'_, C, E>,
 ) -> Result<Card, LabFault> {
+    if let Some(level) = gallery.level(name)
+        && !level.program.is_empty()
+    {
+        return Err(gallery.fault(alloc, level, ONE_PROGRAM)?);
+    }
     let slash = slash_after(folder);
     let path = format!(in alloc; "{folder}{slash}{name}.asm")?;
     let program = read_asked_program(alloc, inputs, &path, None)?;

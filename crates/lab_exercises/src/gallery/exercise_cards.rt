@@ -20,6 +20,9 @@ use submission_rows::parts::{Inputs, LabFault};
 /// What the page of one run calls its schedule.
 const THAT_DECIDES: &str = "the schedule that decides";
 
+/// What is said of a level that names an exercise alone.
+const NO_PROGRAM: &str = "a level of an exercise names its program: EXERCISE/PROGRAM";
+
 /// The card of an exercise, whose pages are written: of the wrong program that its level names, or else of the first one.
 /// None if it has no wrong program.
 pub(crate) fn exercise_card<X: Threads + Sync + Clock, F: Files, R: Read, E: Write>(
@@ -32,11 +35,13 @@ pub(crate) fn exercise_card<X: Threads + Sync + Clock, F: Files, R: Read, E: Wri
 ) -> Result<Option<Card>, LabFault> {
     let name = file_name(&exercise.path);
     let level = gallery.level(name);
-    let Some(program) = shown_program(alloc, inputs, exercise, level)? else {
+    let Some(program) = shown_program(alloc, inputs, gallery, exercise, level)? else {
         return Ok(None);
     };
     let source = exercise.file(alloc, "wrong/")?;
     let path = format!(in alloc; "{source}{program}.asm")?;
+    // (one that can't be read is refused by the reason why)
+    inputs.read(alloc, &path)?;
     let Some(failing) = failing_program(rt, alloc, inputs, exercise, &path, console)? else {
         return Err(not_failing(alloc, &path)?);
     };
@@ -76,10 +81,14 @@ fn card_of_failing<C: Clock, F: Files, R: Read, E: Write>(
 fn shown_program<F: Files, R: Read>(
     alloc: Global,
     inputs: &Inputs<'_, F, R>,
+    gallery: &Gallery<'_>,
     exercise: &Exercise,
     level: Option<&Level<'_>>,
 ) -> Result<Option<String>, LabFault> {
     if let Some(level) = level {
+        if level.program.is_empty() {
+            return Err(gallery.fault(alloc, level, NO_PROGRAM)?);
+        }
         return Ok(Some(String::from_str(alloc, level.program)?));
     }
     let folder = exercise.file(alloc, "wrong")?;

@@ -36,6 +36,16 @@ impl Gallery<'_> {
         self.levels.get(level_of(self.levels, card)?)
     }
 
+    /// What is said of a level that can't be taken.
+    pub(crate) fn fault(
+        &self,
+        alloc: Global,
+        level: &Level<'_>,
+        why: &str,
+    ) -> Result<LabFault, AllocError> {
+        self.file.fault(alloc, level.line, why)
+    }
+
     /// The path of a file in the folder.
     fn path(&self, alloc: Global, name: &str, end: &str) -> Result<String, AllocError> {
         let folder = self.folder;
@@ -70,6 +80,11 @@ pub fn write_gallery<X: Threads + Sync + Clock, F: Files, R: Read, E: Write>(
         }
     }
     for name in &examples {
+        if is_named(&cards, name) {
+            return Err(LabFault::Words(format!(in alloc;
+                "{name}: an exercise and an example have this name"
+            )?));
+        }
         let card = example_card(alloc, inputs, &gallery, request.examples, name, console)?;
         cards.push(card)?;
     }
@@ -79,6 +94,13 @@ pub fn write_gallery<X: Threads + Sync + Clock, F: Files, R: Read, E: Write>(
     let shown = plain(alloc, &path)?;
     let told = format!(in alloc; "{shown}: open it in a browser\n")?;
     Ok(CommandAnswer::printed(alloc, told, Status::Done))
+}
+
+/// Whether one of these cards has this name.
+fn is_named(cards: &[Card], name: &str) -> bool {
+    cards
+        .iter()
+        .any(|card: &Card| card.head.name.as_str() == name)
 }
 
 /// The file of the levels that lies beside the exercises; an empty one where there is none.
