@@ -26,7 +26,7 @@ _mta_lab_options() {
         --memory --jobs --no-links --pages --format --undecided --feedback --hex --json --results --part --merge
         --color --help'
       ;;
-    exercise) echo '--hint --page --play --reset --folder --color --help' ;;
+    exercise) echo '--hint --page --play --reset --watch --folder --color --help' ;;
     page) echo '--given --seeds --fair --rounds --seed --steps --title --out --color --help' ;;
     picture) echo '--given --fair --rounds --seed --steps --from --to --title --out --color --help' ;;
     play) echo '--given --expect --from --states --title --goal --out --color --help' ;;

@@ -80,6 +80,7 @@ complete -c mta_lab -n '__fish_seen_subcommand_from exercise' -l hint -x -d 'sho
 complete -c mta_lab -n '__fish_seen_subcommand_from exercise' -l page -r -k -a '(__fish_complete_suffix .html)' -d 'writes the page of a run that is not right, FILE.html'
 complete -c mta_lab -n '__fish_seen_subcommand_from exercise' -l play -r -k -a '(__fish_complete_suffix .html)' -d 'writes the page of all schedules, opened where that run ends, FILE.html'
 complete -c mta_lab -n '__fish_seen_subcommand_from exercise' -l reset -f -d 'makes start.asm what it was before you edited it'
+complete -c mta_lab -n '__fish_seen_subcommand_from exercise' -l watch -f -d 'judges your program again each time that you save it'
 complete -c mta_lab -n '__fish_seen_subcommand_from exercise' -l folder -x -a '(__fish_complete_directories)' -d 'where the exercises are [exercises]'
 complete -c mta_lab -n '__fish_seen_subcommand_from page' -l seeds -f -d 'SCHEDULE and OTHER are seeds of random schedules'
 complete -c mta_lab -n '__fish_seen_subcommand_from page picture' -l rounds -f -d 'the running streams step in the order of processor and stream'

@@ -177,7 +177,7 @@ start.asm in the folder of that exercise, which you edit. It is tried with all c
 schedule. If it is not right, a schedule shows why, with the commands to view that run. Each
 exercise has a task, task.md, and hints. --page FILE writes a page of that run, and --play FILE a page
 on which you choose each step, opened after that run. --reset makes start.asm what it was at first,
-and keeps yours as start.old.asm.
+and keeps yours as start.old.asm. --watch judges it again each time that you save it, until you type q.
 
 Examples:
   mta_lab exercise
@@ -203,11 +203,13 @@ Example:
 
 pub(crate) const WORD: &str = "\
 Says what an instruction word says: its text, its hexadecimal digits and its fields. Digits begin
-with 0x or are sixteen; all else is the text of an instruction.
+with 0x or are sixteen; all else is the text of an instruction. After ssw stand the digits of a status
+word, as mta_sim prints it.
 
 Examples:
   mta_lab word 0x28000
-  mta_lab word ADD r1, r1, 1";
+  mta_lab word ADD r1, r1, 1
+  mta_lab word ssw 0000000600000001";
 
 pub(crate) const NEW: &str = "\
 Writes NAME.asm, a program of two processors to begin with, and NAME.expect, which says what each

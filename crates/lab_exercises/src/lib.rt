@@ -8,7 +8,12 @@ mod folders;
 mod hints;
 mod judging;
 mod listing;
+mod missed_words;
 mod originals;
+mod shortfall_words;
 mod telling;
+mod typed_keys;
+mod watching;
 
 pub use exercising::exercise;
+pub use watching::watch_exercise;
