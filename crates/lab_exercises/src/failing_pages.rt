@@ -48,7 +48,7 @@ pub(crate) fn asked_page<'a, C: Clock, E: Write>(
     let (path, is_of_all) = match task {
         ExerciseTask::Page(path) => (path, false),
         ExerciseTask::Play(path) => (path, true),
-        ExerciseTask::Judge | ExerciseTask::Hint(_) | ExerciseTask::Reset => {
+        ExerciseTask::Judge | ExerciseTask::Hint(_) | ExerciseTask::Reset | ExerciseTask::Watch => {
             return Ok(AskedPage::NotAsked);
         }
     };

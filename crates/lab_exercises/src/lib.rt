@@ -11,9 +11,14 @@ mod gallery;
 mod hints;
 mod judging;
 mod listing;
+mod missed_words;
 mod originals;
 mod parts;
+mod shortfall_words;
 mod telling;
+mod typed_keys;
+mod watching;
 
 pub use exercising::exercise;
 pub use gallery::write_gallery;
+pub use watching::watch_exercise;

@@ -6,12 +6,12 @@ use lab_adapter::adapt;
 use lab_checks::{assemble_file, check, explain, lay_out, make_schedule, show_word, start_program};
 use lab_command_line::read_lab_command;
 use lab_debugger::{Screen, debug};
-use lab_exercises::{exercise, write_gallery};
+use lab_exercises::{exercise, watch_exercise, write_gallery};
 use lab_explorer::show_every_end;
 use lab_grades::{grade, merge};
 use lab_language::serve_language;
 use lab_pages::{write_page, write_picture, write_play_page};
-use lab_requests::{Colours, LabCommand};
+use lab_requests::{Colours, ExerciseTask, LabCommand};
 use lab_surveys::survey;
 use lab_views::{compare, view};
 use plain_text::{plain, push_plain};
@@ -166,8 +166,13 @@ fn run_command<X: Threads + Wait + Sync + Clock, F: Files, R: Read + Send, W: Wr
                 output: &mut *outputs.output,
                 errors: &mut *outputs.errors,
                 is_prompted: outputs.terminals.input,
+                is_coloured: painting.output,
             };
             debug(alloc, inputs, program, *given, *run, &mut screen)
+        }
+        LabCommand::Exercise(request) if matches!(request.task, ExerciseTask::Watch) => {
+            let (mut printer, mut console) = writers_of(rt, outputs, painting);
+            watch_exercise(rt, alloc, inputs, request, &mut printer, &mut console)
         }
         LabCommand::Check(_)
         | LabCommand::Schedule { .. }
@@ -192,6 +197,26 @@ fn run_command<X: Threads + Wait + Sync + Clock, F: Files, R: Read + Send, W: Wr
     }
 }
 
+/// What writes what is printed before an answer is whole, and what looks on at a search.
+fn writers_of<'w, X: Clock, W: Write, E: Write>(
+    rt: &'w X,
+    outputs: &'w mut Outputs<'_, W, E>,
+    painting: Painting,
+) -> (Printer<'w, W>, Console<'w, X, E>) {
+    (
+        Printer {
+            output: &mut *outputs.output,
+            is_coloured: painting.output,
+        },
+        Console {
+            clock: rt,
+            errors: &mut *outputs.errors,
+            is_terminal: outputs.terminals.errors,
+            memory: outputs.memory,
+        },
+    )
+}
+
 /// Runs a command that answers when it is done.
 fn answer_whole<X: Threads + Wait + Sync + Clock, F: Files, R: Read, W: Write, E: Write>(
     rt: &X,
@@ -201,16 +226,7 @@ fn answer_whole<X: Threads + Wait + Sync + Clock, F: Files, R: Read, W: Write, E
     outputs: &mut Outputs<'_, W, E>,
     painting: Painting,
 ) -> Result<Status, LabFault> {
-    let mut console = Console {
-        clock: rt,
-        errors: &mut *outputs.errors,
-        is_terminal: outputs.terminals.errors,
-        memory: outputs.memory,
-    };
-    let mut printer = Printer {
-        output: &mut *outputs.output,
-        is_coloured: painting.output,
-    };
+    let (mut printer, mut console) = writers_of(rt, outputs, painting);
     let answer = answer_to(rt, alloc, command, inputs, &mut printer, &mut console)?;
     tell(answer, outputs, painting)
 }

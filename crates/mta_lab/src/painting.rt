@@ -53,10 +53,9 @@ fn is_for_people(command: &LabCommand) -> bool {
         LabCommand::Explore(request) => !request.shown.json,
         LabCommand::Grade(request) => request.format == GradeFormat::Text,
         LabCommand::Merge(request) => request.format == GradeFormat::Text,
-        LabCommand::Exercise(_) => true,
+        LabCommand::Exercise(_) | LabCommand::Debug { .. } => true,
         LabCommand::Check(_)
         | LabCommand::Schedule { .. }
-        | LabCommand::Debug { .. }
         | LabCommand::Adapt
         | LabCommand::ServeLanguage
         | LabCommand::Page(_)
