@@ -1,8 +1,8 @@
 //! What is said of a search: its head and its ends, in words or as objects.
 
 use crate::end_pages::FoundProgram;
+use crate::endless::WaitingProgram;
 use crate::explored_objects::push_objects;
-use crate::waiting::WaitingProgram;
 use command_parts::CommandAnswer;
 use end_kinds::{EndKind, Status};
 use expectation_files::Requirements;

@@ -3,11 +3,11 @@
 
 mod end_folders;
 mod end_pages;
+mod endless;
 mod explored_objects;
 mod explored_text;
 mod exploring;
 mod graphs;
-mod waiting;
 mod waiting_files;
 mod waiting_objects;
 mod waiting_text;

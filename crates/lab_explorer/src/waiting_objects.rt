@@ -1,6 +1,6 @@
 //! Who can wait forever, as objects (docs/LAB_REFERENCE.md, "JSON").
 
-use crate::waiting::WaitingProgram;
+use crate::endless::WaitingProgram;
 use command_parts::push_object;
 use endless_waits::starving::Starving;
 use endless_waits::{EndlessWaits, SeenRound, StreamSteps, seen_round};

@@ -1,6 +1,6 @@
 //! Who can wait forever, in words.
 
-use crate::waiting::WaitingProgram;
+use crate::endless::WaitingProgram;
 use endless_waits::starving::Starving;
 use endless_waits::waits_of_streams::Wait;
 use endless_waits::{EndlessWaits, SeenRound, StreamSteps, seen_round};
