@@ -23,7 +23,7 @@ pub(crate) fn push_waits_lines(
 ) -> Result<(), AllocError> {
     let mut out = TextWriter::take(text);
     if waiting.waits.is_nobody() {
-        out.put("fair by words: nobody can wait forever");
+        out.put("fair by words: nobody can be blocked forever");
         out.put(match waiting.begin {
             0 => "\n",
             _ => " by a schedule that begins so\n",
