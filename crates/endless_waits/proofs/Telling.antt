@@ -1,6 +1,6 @@
 -- What is known of a search of which it is asked who can wait forever.
-use Rattle.std.specs.Prelude.{IsTrue, ◌==◌, nat_lt, not, ◌&&◌, if◌then◌else◌, Option, Some, None}
-use Rattle.std.proofs.Common.{◌≡◌, Bool, true, false, List, [], length, refl, sym, ◌∙◌, subst}
+use Rattle.std.specs.Prelude.{IsTrue, ◌==◌, nat_lt, not, ◌&&◌, if◌then◌else◌, Some, None}
+use Rattle.std.proofs.Common.{◌≡◌, Bool, true, false, List, length, refl, sym, ◌∙◌, subst}
 use Rattle.std.proofs.lemmas.Bool.{eqb-true}
 use Rattle.std.proofs.lemmas.List.{nil_from_length}
 use Rattle.image_file.specs.ImageValue.{ImageValue}
@@ -13,7 +13,6 @@ use Rattle.program_searches.specs.Searches.{takes_all, IsExplored}
 use Rattle.program_searches.specs.declared.explored.Explored.{Explored}
 use Rattle.program_searches.specs.declared.searches.ProgramSearch.{ProgramSearch}
 use Rattle.endless_waits.specs.Waits.{most_states, why_not, is_nobody, TellsWhoWaits}
-use Rattle.endless_waits.specs.declared.unanswered.Unanswered.{Unanswered}
 use Rattle.endless_waits.specs.declared.unanswered.Unanswered.TheVariants as reason
 use Rattle.endless_waits.specs.declared.waits.EndlessWaits.{EndlessWaits}
 use Rattle.endless_waits.specs.declared.waits.EndlessWaits.TheVariants as waits
@@ -45,7 +44,7 @@ module _ (image : ImageValue) (asked : ProgramSearch) (e : Explored) (x : IsExpl
   has_all_states none = by_flags e.is_of_all_worlds e.is_complete refl refl none
 
   -- and what is said of its space is so of the program
-  tells_of_program : (r : StarvingStreams) → why_not e ≡ None
+  pub tells_of_program : (r : StarvingStreams) → why_not e ≡ None
       → (HasAllStates e.space → TellsWhoStarves e.space.image e.space.begin r)
       → TellsWhoStarves image asked.begin.now r
   tells_of_program r none tells =
@@ -57,7 +56,7 @@ both true b is = (refl, is)
 both false b is = cc
 
 -- if it is said that nobody can, nobody can
-nobody_waits : (image : ImageValue) (begin : List Step) (w : EndlessWaits) → TellsWhoWaits image begin w
+pub nobody_waits : (image : ImageValue) (begin : List Step) (w : EndlessWaits) → TellsWhoWaits image begin w
     → IsTrue (is_nobody w) → NobodyWaits image begin
 nobody_waits image begin (waits.Answered r) tells is =
     let none = both (length r.starving.items == 0) (length r.undecided.items == 0) is in
