@@ -7,7 +7,7 @@ use crate::judging::{THOROUGH, judge_file};
 use exercise_advice::searches::Console;
 use processor::Step;
 use replay_page::RunVerdict;
-use std::alloc::Global;
+use std::alloc::{AllocError, Global};
 use std::io::{Read, Write};
 use std::rt::Files;
 use std::thread::Threads;
@@ -48,13 +48,23 @@ pub(crate) fn failing_program<X: Threads + Sync + Clock, F: Files, R: Read, E: W
     let Some(decided) = judged.decided else {
         return Ok(None);
     };
-    let steps = steps_of(alloc, &decided.program.image, &judged.row.witness)?;
+    let row = judged.row;
+    let steps = steps_shown(alloc, &decided, &row)?;
     if steps.is_empty() {
         return Ok(None);
     }
     Ok(Some(FailingProgram {
         decided,
         steps,
-        row: judged.row,
+        row,
     }))
+}
+
+/// The steps of the run that a row shows of the case that decides.
+fn steps_shown(
+    alloc: Global,
+    decided: &DecidedByCase,
+    row: &GradeRow,
+) -> Result<Vec<Step>, AllocError> {
+    steps_of(alloc, &decided.program.image, &row.witness)
 }

@@ -39,30 +39,77 @@ pub(crate) fn example_card<C: Clock, F: Files, R: Read, E: Write>(
     {
         return Err(gallery.fault(alloc, level, ONE_PROGRAM)?);
     }
+    let example = read_example(alloc, inputs, folder, name)?;
+    card_by_run(alloc, inputs, gallery, name, &example, console)
+}
+
+/// An example, and the run that its card shows.
+#[derive(Drop)]
+struct Example {
+    /// The program.
+    program: Program,
+    /// The steps of the run.
+    steps: Vec<Step>,
+    /// The name of the schedule's file, without its end, if there is one.
+    schedule: Option<String>,
+}
+
+impl Example {
+    /// What the schedule is called.
+    fn schedule_words(&self) -> &str {
+        match &self.schedule {
+            Some(name) => name.as_str(),
+            None => "none",
+        }
+    }
+}
+
+/// An example of a folder.
+fn read_example<F: Files, R: Read>(
+    alloc: Global,
+    inputs: &mut Inputs<'_, F, R>,
+    folder: &str,
+    name: &str,
+) -> Result<Example, LabFault> {
     let slash = slash_after(folder);
     let path = format!(in alloc; "{folder}{slash}{name}.asm")?;
     let program = read_asked_program(alloc, inputs, &path, None)?;
     let schedule = shown_schedule(alloc, inputs, folder, name)?;
     let steps = steps_by(alloc, inputs, &program, folder, schedule.as_ref())?;
-    let words = schedule
-        .as_ref()
-        .map_or("none", |text: &String| text.as_str());
+    Ok(Example {
+        program,
+        steps,
+        schedule,
+    })
+}
+
+/// The card of an example with its run.
+fn card_by_run<C: Clock, F: Files, R: Read, E: Write>(
+    alloc: Global,
+    inputs: &Inputs<'_, F, R>,
+    gallery: &Gallery<'_>,
+    name: &str,
+    example: &Example,
+    console: &mut Console<'_, C, E>,
+) -> Result<Card, LabFault> {
     let head = CardHead {
         kind: CardKind::Example,
         name: String::from_str(alloc, name)?,
         title: String::from_str(alloc, name)?,
-        teaches: sentence_of_source(alloc, &program.text)?,
+        teaches: sentence_of_source(alloc, &example.program.text)?,
         program: None,
     };
+    let required = Requirements::none(alloc);
+    let schedule = example.schedule_words();
     let shown = ShownProgram {
         called: name,
-        program: &program,
-        required: &Requirements::none(alloc),
-        steps: &steps,
-        schedule: words,
+        program: &example.program,
+        required: &required,
+        steps: &example.steps,
+        schedule,
         verdict: RunVerdict::NotJudged,
     };
-    let fails = schedule_name(words, name) != ENDS;
+    let fails = schedule_name(schedule, name) != ENDS;
     card_of(alloc, inputs, gallery, head, shown, fails, console)
 }
 
