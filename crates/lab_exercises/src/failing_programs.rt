@@ -3,7 +3,7 @@
 use crate::advice::steps_of;
 use crate::failing_pages::verdict_of;
 use crate::folders::Exercise;
-use crate::judging::{THOROUGH, judge_file};
+use crate::judging::{Judgement, THOROUGH, judge_file};
 use exercise_advice::searches::Console;
 use processor::Step;
 use replay_page::RunVerdict;
@@ -45,10 +45,14 @@ pub(crate) fn failing_program<X: Threads + Sync + Clock, F: Files, R: Read, E: W
     console: &mut Console<'_, X, E>,
 ) -> Result<Option<FailingProgram>, LabFault> {
     let judged = judge_file(rt, alloc, inputs, exercise, path, THOROUGH, console)?;
-    let Some(decided) = judged.decided else {
+    let Judgement {
+        row,
+        why: _why,
+        decided,
+    } = judged;
+    let Some(decided) = decided else {
         return Ok(None);
     };
-    let row = judged.row;
     let steps = steps_shown(alloc, &decided, &row)?;
     if steps.is_empty() {
         return Ok(None);
