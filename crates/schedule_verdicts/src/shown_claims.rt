@@ -1,9 +1,12 @@
 //! Whether some world shows a claim that has to hold of one at least.
 
 ghost use Rattle.std.specs.Prelude.{◌≡◌, ◌<◌, ◌↔◌, IsTrue, IsFalse, IfSome, IfOk, None, Err};
+ghost use Rattle.schedule_verdicts.specs.ClaimMarks.{marks_for};
 ghost use Rattle.schedule_verdicts.specs.ShownClaims.{IsShownOnTheWay, IsUnshownOnTheWay, IsShown, AreShown};
 ghost use Rattle.schedule_verdicts.specs.ShownClaims.{IsUnshownIn, IsUnshownAt, TellsOfClaims};
 
+use crate::claim_marks::ClaimMarks;
+use crate::marking::marks_of_shown;
 use busy_streams::space::Space;
 use claims::Claim;
 use image_file::Image;
@@ -32,8 +35,9 @@ pub fn first_unshown<const S: usize>(
     if usize::from(space.image().slim()) > S {
         return Err(LoadFault::Streams);
     }
+    let marks = marks_of_shown::<S>(alloc, space, claims)?;
     for place in 0..claims.len() {
-        if !is_shown::<S>(alloc, space, &claims[place])? {
+        if !is_shown::<S>(alloc, space, &claims[place], &marks[place])? {
             return Ok(Some(place));
         }
     }
@@ -45,7 +49,9 @@ fn is_shown<const S: usize>(
     alloc: Global,
     space: &Space<'_>,
     claim: &Claim,
+    marks: &ClaimMarks<'_, '_>,
 ) -> Result<bool, LoadFault>
+    requires { marks.now ≡ marks_for space.now claim.now }
     ensures shown { IfOk result (λ b. IsTrue b → IsShown space.now.image space.now.begin claim.now) }
     ensures unshown { IfOk result (λ b. IsFalse b → IsUnshownIn space.now claim.now) }
     ensures streams { (result ≡ Err LoadFault.Streams) ↔ (S < space.now.image.slim) }
@@ -54,8 +60,7 @@ fn is_shown<const S: usize>(
         return Ok(true);
     }
     for place in 0..space.len() {
-        let machine = space.machine::<S>(alloc, place)?;
-        if claim.is_shown(&machine) {
+        if marks.is_shown::<S>(alloc, place)? {
             return Ok(true);
         }
     }

@@ -1,0 +1,111 @@
+-- Marks of a claim, and what they say.
+use Rattle.std.proofs.Common.{◌≡◌, ℕ, zero, suc, ◌+◌, ◌<◌, ◌≤◌, ◌⊎◌, inl, inr, refl, sym, ap, ◌∙◌, subst, arith}
+use Rattle.std.proofs.Common.{Bool, true, false, ◌&&◌, List, [], ◌∷◌, ◌++◌, length, map, take, set, get_or}
+use Rattle.std.specs.Prelude.{IsTrue, slice_index_or}
+use Rattle.std.specs.List.{All, list_all}
+use Rattle.std.proofs.lemmas.Bool.{cases_lt}
+use Rattle.std.proofs.lemmas.List.{get_or-set_same, get_or-set_other, get_or-map, take_more, map-append}
+use Rattle.std.proofs.lemmas.List.Sums.{AllPass-from_list_all, list_all-from_AllPass}
+use Rattle.machine.specs.Processor.World.{World}
+use Rattle.claims.specs.Holding.{holds, shows, holds_by, shown_by, form_holds}
+use Rattle.claims.specs.declared.claim.Claim.{Claim}
+use Rattle.claims.specs.declared.claim.Scope.{Scope}
+use Rattle.claims.specs.declared.claim.Scope.TheVariants.{Always, Never, Once}
+use Rattle.busy_streams.specs.ScheduleSpace.Spaces.{SpaceValue, count, world_of, StandsFor}
+use Rattle.schedule_verdicts.specs.KeptClaims.{all_hold, IsKept, AreKept}
+use Rattle.schedule_verdicts.specs.ClaimMarks.{passes, marks_for, MarksValue, IsMark, IsMarkOf, AreMarks, AreOfSpace, AreJudgedBy}
+use Rattle.schedule_verdicts.specs.declared.claim_marks.Mark.{Mark}
+use Rattle.schedule_verdicts.specs.declared.claim_marks.Mark.TheVariants as mark
+use Rattle.schedule_verdicts.proofs.Alike.{agreeing_passes}
+
+-- What a world passes.
+
+with_nothing : (b : Bool) → (b && true) ≡ b
+with_nothing true = refl
+with_nothing false = refl
+
+pub always : (w : World) (c : Claim) → c.scope ≡ Always → passes w c ≡ holds w c
+always w c is =
+    ap (λ s. holds_by s (form_holds w c.form) && shown_by s (form_holds w c.form)) is
+    ∙ with_nothing (form_holds w c.form)
+    ∙ sym (ap (λ s. holds_by s (form_holds w c.form)) is)
+
+pub never : (w : World) (c : Claim) → c.scope ≡ Never → passes w c ≡ holds w c
+never w c is =
+    ap (λ s. holds_by s (form_holds w c.form) && shown_by s (form_holds w c.form)) is
+    ∙ with_nothing (holds_by Never (form_holds w c.form))
+    ∙ sym (ap (λ s. holds_by s (form_holds w c.form)) is)
+
+pub once : (w : World) (c : Claim) → c.scope ≡ Once → passes w c ≡ shows w c
+once w c is =
+    ap (λ s. holds_by s (form_holds w c.form) && shown_by s (form_holds w c.form)) is
+    ∙ sym (ap (λ s. shown_by s (form_holds w c.form)) is)
+
+-- Marks.
+
+-- what is known of a world is known of the one that stands for it
+pub mark_alike : (v : SpaceValue) (k : ℕ) (w : World) (c : Claim) (m : Mark) → StandsFor v k w
+    → IsMark (passes w c) m → IsMarkOf v c k m
+mark_alike v k w c m stands is =
+    subst (λ (b : Bool). IsMark b m) (sym (agreeing_passes v.live (world_of v k) w stands c)) is
+
+-- one mark more
+pub marked : (v : SpaceValue) (c : Claim) (marks : List Mark) (place : ℕ) (m : Mark) → place < length marks
+    → AreMarks v c marks → IsMarkOf v c place m → AreMarks v c (set marks place m)
+marked v c marks place m below are is k = by (cases_lt k place) (cases_lt place k) where
+  other : ¬ (k ≡ place) → IsMarkOf v c k (slice_index_or (set marks place m) k mark.Unknown)
+  other apart = subst (IsMarkOf v c k) (sym (get_or-set_other marks place k m mark.Unknown apart)) (are k)
+
+  by : (k < place) ⊎ (place ≤ k) → (place < k) ⊎ (k ≤ place)
+      → IsMarkOf v c k (slice_index_or (set marks place m) k mark.Unknown)
+  by (inl less) more = other (λ same. omega (arith, less, same))
+  by (inr least) (inl more) = other (λ same. omega (arith, more, same))
+  by (inr least) (inr most) =
+      let same : place ≡ k = omega (arith, least, most) in
+      subst (λ (n : ℕ). IsMarkOf v c n (slice_index_or (set marks place m) n mark.Unknown)) same
+      (subst (IsMarkOf v c place) (sym (get_or-set_same marks place m mark.Unknown below)) is)
+
+-- nothing is known yet
+pub none_known : (v : SpaceValue) (c : Claim) (n : ℕ) → AreMarks v c (replicate n mark.Unknown)
+none_known v c zero k = tt
+none_known v c (suc n) zero = tt
+none_known v c (suc n) (suc k) = none_known v c n k
+
+-- The marks of claims.
+
+pub of_space : (v : SpaceValue) (cs : List Claim) → AreOfSpace v (map (marks_for v) cs)
+of_space v [] k d below = absurd (omega (arith, below))
+of_space v (c ∷ cs) zero d below = refl
+of_space v (c ∷ cs) (suc k) d below = of_space v cs k d (omega (arith, below))
+
+pub judged_by : (v : SpaceValue) (place : ℕ) (w : World) (marks : List MarksValue) → AreOfSpace v marks
+    → StandsFor v place w → AreJudgedBy place w marks
+judged_by v place w marks of stands k d below =
+    subst (λ (u : SpaceValue). StandsFor u place w) (sym (of k d below)) stands
+
+-- of one claim more
+pub claim_more : (v : SpaceValue) (cs : List Claim) (n : ℕ) (c : Claim) (marks : List MarksValue) (m : MarksValue)
+    → n < length cs → c ≡ get_or cs n c → m ≡ marks_for v c → marks ≡ map (marks_for v) (take n cs)
+    → marks ++ m ∷ [] ≡ map (marks_for v) (take (n + 1) cs)
+claim_more v cs n c marks m below read is are =
+    (λ i. are i ++ is i ∷ [])
+    ∙ ap (λ (d : Claim). map (marks_for v) (take n cs) ++ marks_for v d ∷ []) read
+    ∙ sym (map-append (marks_for v) (take n cs) (get_or cs n c ∷ []))
+    ∙ sym (ap (map (marks_for v)) (take_more cs n c below))
+
+-- the marks of the claim at a place
+pub marks_at : (v : SpaceValue) (cs : List Claim) (marks : List MarksValue) (n : ℕ) (m : MarksValue) (c : Claim)
+    → marks ≡ map (marks_for v) cs → n < length cs → m ≡ get_or marks n m → get_or cs n c ≡ c → m ≡ marks_for v c
+marks_at v cs marks n m c are below read there =
+    read ∙ ap (λ (ms : List MarksValue). get_or ms n m) are ∙ get_or-map (marks_for v) cs n c m below
+    ∙ ap (marks_for v) there
+
+-- Claims that hold of each world.
+
+pub all_kept : (v : SpaceValue) (cs : List Claim) → ((j : ℕ) (d : Claim) → j < length cs → IsKept v (get_or cs j d))
+    → AreKept v cs
+all_kept v cs each k below = list_all-from_AllPass (holds (world_of v k)) cs (λ j d within. each j d within k below)
+
+pub one_kept : (v : SpaceValue) (cs : List Claim) → AreKept v cs → (j : ℕ) (d : Claim) → j < length cs
+    → IsKept v (get_or cs j d)
+one_kept v cs all j d within k below = AllPass-from_list_all (holds (world_of v k)) cs (all k below) j d within
