@@ -8,6 +8,6 @@ pub mod OnTheWay
 mod Unseen
 mod Shown
 mod Marks
-mod Walks
+mod LeadingOn
 -- Of crates below, passed on to callers.
 pub mod ScheduleSpace

@@ -4,7 +4,7 @@ use Rattle.std.proofs.Common.{Bool, true, false, ◌&&◌, List, [], ◌∷◌, 
 use Rattle.std.specs.Prelude.{IsTrue, slice_index_or}
 use Rattle.std.specs.List.{All, list_all}
 use Rattle.std.proofs.lemmas.Bool.{cases_lt}
-use Rattle.std.proofs.lemmas.List.{get_or-set_same, get_or-set_other, get_or-map, take_more, map-append}
+use Rattle.std.proofs.lemmas.List.{get_or-set_same, get_or-set_other, get_or-map, length-map, take_more, map-append}
 use Rattle.std.proofs.lemmas.List.Sums.{AllPass-from_list_all, list_all-from_AllPass}
 use Rattle.machine.specs.Processor.World.{World}
 use Rattle.claims.specs.Holding.{holds, shows, holds_by, shown_by, form_holds}
@@ -65,12 +65,6 @@ marked v c marks place m below are is k = by (cases_lt k place) (cases_lt place 
       subst (λ (n : ℕ). IsMarkOf v c n (slice_index_or (set marks place m) n mark.Unknown)) same
       (subst (IsMarkOf v c place) (sym (get_or-set_same marks place m mark.Unknown below)) is)
 
--- nothing is known yet
-pub none_known : (v : SpaceValue) (c : Claim) (n : ℕ) → AreMarks v c (replicate n mark.Unknown)
-none_known v c zero k = tt
-none_known v c (suc n) zero = tt
-none_known v c (suc n) (suc k) = none_known v c n k
-
 -- The marks of claims.
 
 pub of_space : (v : SpaceValue) (cs : List Claim) → AreOfSpace v (map (marks_for v) cs)
@@ -93,12 +87,13 @@ claim_more v cs n c marks m below read is are =
     ∙ sym (map-append (marks_for v) (take n cs) (get_or cs n c ∷ []))
     ∙ sym (ap (map (marks_for v)) (take_more cs n c below))
 
--- the marks of the claim at a place
-pub marks_at : (v : SpaceValue) (cs : List Claim) (marks : List MarksValue) (n : ℕ) (m : MarksValue) (c : Claim)
-    → marks ≡ map (marks_for v) cs → n < length cs → m ≡ get_or marks n m → get_or cs n c ≡ c → m ≡ marks_for v c
-marks_at v cs marks n m c are below read there =
-    read ∙ ap (λ (ms : List MarksValue). get_or ms n m) are ∙ get_or-map (marks_for v) cs n c m below
-    ∙ ap (marks_for v) there
+-- of the claim at a place
+pub claim_at : (v : SpaceValue) (cs : List Claim) (marks : List MarksValue) (n : ℕ) (m : MarksValue) (d : Claim)
+    → marks ≡ map (marks_for v) cs → n < length marks → m ≡ get_or marks n m → m ≡ marks_for v (get_or cs n d)
+claim_at v cs marks n m d are below read =
+    let long : length marks ≡ length cs = ap length are ∙ length-map cs (marks_for v) in
+    read ∙ ap (λ (ms : List MarksValue). get_or ms n m) are
+    ∙ get_or-map (marks_for v) cs n d m (omega (arith, below, long))
 
 -- Claims that hold of each world.
 
@@ -109,3 +104,24 @@ all_kept v cs each k below = list_all-from_AllPass (holds (world_of v k)) cs (λ
 pub one_kept : (v : SpaceValue) (cs : List Claim) → AreKept v cs → (j : ℕ) (d : Claim) → j < length cs
     → IsKept v (get_or cs j d)
 one_kept v cs all j d within k below = AllPass-from_list_all (holds (world_of v k)) cs (all k below) j d within
+
+-- one claim more, by its marks
+pub kept_more : (v : SpaceValue) (cs : List Claim) (marks : List MarksValue) (n : ℕ) (m : MarksValue)
+    → marks ≡ map (marks_for v) cs → n < length marks → m ≡ get_or marks n m → IsKept v m.claim
+    → ((j : ℕ) (d : Claim) → j < n → IsKept v (get_or cs j d)) → (j : ℕ) (d : Claim) → j < n + 1
+    → IsKept v (get_or cs j d)
+kept_more v cs marks n m are below read here before j d within = by (cases_lt j n) where
+  by : (j < n) ⊎ (n ≤ j) → IsKept v (get_or cs j d)
+  by (inl less) = before j d less
+  by (inr most) =
+      let same : n ≡ j = omega (arith, within, most) in
+      subst (λ (k : ℕ). IsKept v (get_or cs k d)) same
+      (subst (IsKept v) (ap (λ (x : MarksValue). x.claim) (claim_at v cs marks n m d are below read)) here)
+
+-- where all hold, one does
+pub kept_here : (v : SpaceValue) (cs : List Claim) (marks : List MarksValue) (n : ℕ) (m : MarksValue)
+    → marks ≡ map (marks_for v) cs → n < length marks → m ≡ get_or marks n m → AreKept v cs → IsKept v m.claim
+kept_here v cs marks n m are below read all =
+    let long : length marks ≡ length cs = ap length are ∙ length-map cs (marks_for v) in
+    subst (IsKept v) (sym (ap (λ (x : MarksValue). x.claim) (claim_at v cs marks n m m.claim are below read)))
+    (one_kept v cs all n m.claim (omega (arith, below, long)))

@@ -17,6 +17,12 @@ pub record IsAt (v : SpaceValue) (place : ℕ) (m : MachineValue) : Type 0 where
 abbrev pub machine_next : MachineValue → Step → MachineValue
 machine_next m t = record { image = m.image; world = after m.image m.world t }
 
+-- a walk through the worlds of a space: the place to which it has come, and a machine there
+pub record WalkValue : Type 0 where
+  pub space : SpaceValue
+  pub place : ℕ
+  pub machine : MachineValue
+
 -- a place that a walk has still to come to, with a machine there, where one is kept
 pub record VisitValue : Type 0 where
   pub place : ℕ

@@ -104,11 +104,25 @@ impl<'s, 'i> ClaimMarks<'s, 'i> {
         match self.mark_at(place) {
             Mark::Passed => Ok(true),
             Mark::Failed => Ok(false),
-            Mark::Unknown => {
-                let machine = self.space.machine::<S>(alloc, place)?;
-                Ok(passes(self.claim, &machine))
-            }
+            Mark::Unknown => self.passes_by_schedule::<S>(alloc, place),
         }
+    }
+
+    /// The same, by a machine that the world's schedule makes.
+    ///
+    /// Not inlined: who reads a mark would pay for the room of a machine.
+    #[inline(never)]
+    fn passes_by_schedule<const S: usize>(
+        &self,
+        alloc: Global,
+        place: usize,
+    ) -> Result<bool, LoadFault>
+        requires { place < count self.now.space }
+        ensures passes { IfOk result (λ b. b ≡ passes (world_of self.now.space place) self.now.claim) }
+        ensures streams { result ≡ Err LoadFault.Streams → S < self.now.space.image.slim }
+    {
+        let machine = self.space.machine::<S>(alloc, place)?;
+        Ok(passes(self.claim, &machine))
     }
 
     /// What is known of the world at a place.

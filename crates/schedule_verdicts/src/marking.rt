@@ -74,12 +74,11 @@ fn mark_all<'i, const S: usize>(
     ensures streams { result ≡ Err LoadFault.Streams → S < space.now.image.slim }
 {
     let mut walk = Walk::<S>::new(alloc, space)?;
-    for _ in 0..space.len() {
-        let Some((place, machine)) = walk.next(alloc)? else {
+    for visited in 0..space.len() {
+        mark_at(marks, walk.place(), walk.machine());
+        if !walk.go_on(alloc)? {
             return Ok(());
-        };
-        mark_at(marks, place, &machine);
-        walk.go_on(alloc, place, machine)?;
+        }
     }
     Ok(())
 }

@@ -1,5 +1,5 @@
 -- A walk goes on along the edges of a space.
-use Rattle.std.proofs.Common.{◌≡◌, ℕ, ◌<◌, refl, sym, ap, ◌∙◌, subst, List, [], ◌∷◌, ◌++◌, length, Option, Some, None}
+use Rattle.std.proofs.Common.{◌≡◌, ℕ, ◌<◌, refl, sym, ap, ◌∙◌, subst, List, [], ◌∷◌, ◌++◌, length, get_or, Option, Some, None}
 use Rattle.std.specs.Prelude.{IsTrue}
 use Rattle.std.proofs.lemmas.Option.{same_Some}
 use Rattle.std.proofs.lemmas.List.Elements.{All-push}
@@ -13,7 +13,7 @@ use Rattle.busy_streams.specs.ScheduleSpaceTypes.Edge.{Edge}
 use Rattle.busy_streams.specs.ScheduleSpace.Spaces.{SpaceValue, count, schedule_of, world_of, machine_after, StandsFor, IsEdgeToStandIn}
 use Rattle.busy_streams.specs.ScheduleSpace.Finding.{found_in}
 use Rattle.busy_streams.proofs.ScheduleSpace.Agreeing.{Named, Live, Asked, ground, agree_both, agree_same}
-use Rattle.schedule_verdicts.specs.Walking.{IsAt, machine_next, VisitValue, IsVisit, AreVisits, LeadsOn}
+use Rattle.schedule_verdicts.specs.Walking.{IsAt, machine_next, VisitValue, IsVisit, AreVisits, LeadsOn, IsWay, AreWays}
 
 -- one step more
 next_alike : (v : SpaceValue) → IsLive v.image v.live → (k : ℕ) (w : World) (e : Edge) → k < count v → StandsFor v k w
@@ -57,3 +57,9 @@ without_machine v place below = record { there = below; at = λ n is. cc }
 pub visit_more : (v : SpaceValue) (visits : List VisitValue) (visit : VisitValue) → AreVisits v visits → IsVisit v visit
     → AreVisits v (visits ++ visit ∷ [])
 visit_more v visits visit all is = All-push (IsVisit v) visits visit all is
+
+-- The edges of a tree.
+
+pub way_at : (v : SpaceValue) (place : ℕ) (ways : List Edge) (k : ℕ) (e : Edge) → AreWays v place ways → k < length ways
+    → e ≡ get_or ways k e → IsWay v place e
+way_at v place ways k e all below is = subst (IsWay v place) (sym is) (all k e below)
