@@ -57,6 +57,20 @@ impl<'s, 'i> ClaimMarks<'s, 'i> {
         })
     }
 
+    /// The space.
+    pub fn space(&self) -> &'s Space<'i>
+        ensures { result.now ≡ self.now.space }
+    {
+        self.space
+    }
+
+    /// The claim.
+    pub fn claim(&self) -> &'s Claim
+        ensures { result.now ≡ self.now.claim }
+    {
+        self.claim
+    }
+
     /// Marks the world at a place, which stands for that of this machine.
     pub(crate) fn judge<const S: usize>(&mut self, place: usize, machine: &Machine<'_, S>)
         requires { StandsFor self.old.space place machine.now.world }

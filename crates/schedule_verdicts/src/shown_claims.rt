@@ -1,7 +1,6 @@
 //! Whether some world shows a claim that has to hold of one at least.
 
 ghost use Rattle.std.specs.Prelude.{◌≡◌, ◌<◌, ◌↔◌, IsTrue, IsFalse, IfSome, IfOk, None, Err};
-ghost use Rattle.schedule_verdicts.specs.ClaimMarks.{marks_for};
 ghost use Rattle.schedule_verdicts.specs.ShownClaims.{IsShownOnTheWay, IsUnshownOnTheWay, IsShown, AreShown};
 ghost use Rattle.schedule_verdicts.specs.ShownClaims.{IsUnshownIn, IsUnshownAt, TellsOfClaims};
 
@@ -36,8 +35,8 @@ pub fn first_unshown<const S: usize>(
         return Err(LoadFault::Streams);
     }
     let marks = marks_of_shown::<S>(alloc, space, claims)?;
-    for place in 0..claims.len() {
-        if !is_shown::<S>(alloc, space, &claims[place], &marks[place])? {
+    for place in 0..marks.len() {
+        if !is_shown::<S>(alloc, &marks[place])? {
             return Ok(Some(place));
         }
     }
@@ -45,17 +44,13 @@ pub fn first_unshown<const S: usize>(
 }
 
 /// Whether a world of a space shows a claim, or one on the way through its beginning.
-fn is_shown<const S: usize>(
-    alloc: Global,
-    space: &Space<'_>,
-    claim: &Claim,
-    marks: &ClaimMarks<'_, '_>,
-) -> Result<bool, LoadFault>
-    requires { marks.now ≡ marks_for space.now claim.now }
-    ensures shown { IfOk result (λ b. IsTrue b → IsShown space.now.image space.now.begin claim.now) }
-    ensures unshown { IfOk result (λ b. IsFalse b → IsUnshownIn space.now claim.now) }
-    ensures streams { (result ≡ Err LoadFault.Streams) ↔ (S < space.now.image.slim) }
+fn is_shown<const S: usize>(alloc: Global, marks: &ClaimMarks<'_, '_>) -> Result<bool, LoadFault>
+    ensures shown { IfOk result (λ b. IsTrue b
+        → IsShown marks.now.space.image marks.now.space.begin marks.now.claim) }
+    ensures unshown { IfOk result (λ b. IsFalse b → IsUnshownIn marks.now.space marks.now.claim) }
+    ensures streams { (result ≡ Err LoadFault.Streams) ↔ (S < marks.now.space.image.slim) }
 {
+    let (space, claim) = (marks.space(), marks.claim());
     if is_shown_on_the_way::<S>(alloc, space.image(), space.begin(), claim)? {
         return Ok(true);
     }

@@ -184,6 +184,8 @@ fn copy_along<'i, const S: usize>(
 fn most_kept(image: &Image, room: usize) -> usize {
     let streams = image.processors().saturating_mul(room);
     let words = image.cells().len().saturating_mul(BYTES_OF_WORD);
-    let bytes = streams.saturating_mul(BYTES_OF_STREAM).saturating_add(words);
+    let bytes = streams
+        .saturating_mul(BYTES_OF_STREAM)
+        .saturating_add(words);
     MOST_BYTES / bytes.max(1)
 }

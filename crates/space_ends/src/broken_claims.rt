@@ -37,8 +37,8 @@ pub(crate) fn add_broken<const S: usize>(
         → AreShownSo v expected ends.old.items → AreShownSo v expected ends.new.items) }
 {
     let marks = marks_in::<S>(alloc, space, claims)?;
-    for index in 0..claims.len() {
-        add_if_broken::<S>(alloc, ends, index, &claims[index], &marks[index], space)?;
+    for index in 0..marks.len() {
+        add_if_broken::<S>(alloc, ends, index, &marks[index])?;
     }
     Ok(())
 }
@@ -48,21 +48,19 @@ fn add_if_broken<const S: usize>(
     alloc: Global,
     ends: &mut Vec<SpaceEnd>,
     index: usize,
-    claim: &Claim,
     marks: &ClaimMarks<'_, '_>,
-    space: &Space<'_>,
 ) -> Result<(), AllocError>
-    requires { marks.now ≡ marks_for space.now claim.now }
     ensures broken { OnOk result (map value_of ends.new.items ≡ map value_of ends.old.items
-        ++ broken_end_of space.now index claim.now) }
+        ++ broken_end_of marks.now.space index marks.now.claim) }
     ensures ends { OnOk result (ends_in ends.new.items ≡ ends_in ends.old.items) }
     ensures spinning { OnOk result (spinning_in ends.new.items ≡ spinning_in ends.old.items) }
     ensures busy { OnOk result (busy_in ends.new.items ≡ busy_in ends.old.items) }
     ensures shown { OnOk result ((v : SpaceValue) (expected : List Expectation)
         → AreShownSo v expected ends.old.items → AreShownSo v expected ends.new.items) }
 {
-    let places = places_that_break::<S>(alloc, marks, space)?;
-    let before = breaks_before::<S>(alloc, claim, space)?;
+    let places = places_that_break::<S>(alloc, marks)?;
+    let space = marks.space();
+    let before = breaks_before::<S>(alloc, marks.claim(), space)?;
     if places.is_empty() && before.is_empty() {
         return Ok(());
     }
@@ -109,13 +107,11 @@ fn breaks_before<const S: usize>(
 fn places_that_break<const S: usize>(
     alloc: Global,
     marks: &ClaimMarks<'_, '_>,
-    space: &Space<'_>,
 ) -> Result<Vec<usize>, AllocError>
-    requires { marks.now.space ≡ space.now }
-    ensures { IfOk result (λ v. v.items ≡ broken_places space.now marks.now.claim) }
+    ensures { IfOk result (λ v. v.items ≡ broken_places marks.now.space marks.now.claim) }
 {
     let mut places = Vec::new(alloc);
-    for place in 0..space.len() {
+    for place in 0..marks.space().len() {
         if !holds_at::<S>(alloc, marks, place)? {
             places.push(place)?;
         }
