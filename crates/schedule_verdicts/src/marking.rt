@@ -22,11 +22,8 @@ pub fn marks_of_kept<'s, 'i, const S: usize>(
     ensures marks { IfOk result (λ v. v.items ≡ map (marks_for space.entry.now) claims.entry.now) }
     ensures streams { result ≡ Err LoadFault.Streams → S < space.entry.now.image.slim }
 {
-    let mut marks = unknown_marks(alloc, space, claims)?;
-    if claims.iter().any(|claim| claim.scope != Scope::Once) {
-        mark_all::<S>(alloc, space, &mut marks)?;
-    }
-    Ok(marks)
+    let is_asked = claims.iter().any(|claim| claim.scope != Scope::Once);
+    marks_if::<S>(alloc, space, claims, is_asked)
 }
 
 /// What is known of claims and the worlds of a space, to ask whether these show them: the same if one has to hold of one
@@ -41,8 +38,22 @@ pub fn marks_of_shown<'s, 'i, const S: usize>(
     ensures marks { IfOk result (λ v. v.items ≡ map (marks_for space.entry.now) claims.entry.now) }
     ensures streams { result ≡ Err LoadFault.Streams → S < space.entry.now.image.slim }
 {
+    let is_asked = claims.iter().any(|claim| claim.scope == Scope::Once);
+    marks_if::<S>(alloc, space, claims, is_asked)
+}
+
+/// What is known of claims and the worlds of a space, by a walk if that is asked for, else nothing.
+fn marks_if<'s, 'i, const S: usize>(
+    alloc: Global,
+    space: &'s Space<'i>,
+    claims: &'s [Claim],
+    is_asked: bool,
+) -> Result<Vec<ClaimMarks<'s, 'i>>, LoadFault>
+    ensures marks { IfOk result (λ v. v.items ≡ map (marks_for space.entry.now) claims.entry.now) }
+    ensures streams { result ≡ Err LoadFault.Streams → S < space.entry.now.image.slim }
+{
     let mut marks = unknown_marks(alloc, space, claims)?;
-    if claims.iter().any(|claim| claim.scope == Scope::Once) {
+    if is_asked {
         mark_all::<S>(alloc, space, &mut marks)?;
     }
     Ok(marks)
