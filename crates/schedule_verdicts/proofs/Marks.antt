@@ -1,10 +1,11 @@
 -- Marks of a claim, and what they say.
 use Rattle.std.proofs.Common.{◌≡◌, ℕ, zero, suc, ◌+◌, ◌<◌, ◌≤◌, ◌⊎◌, inl, inr, refl, sym, ap, ◌∙◌, subst, arith}
-use Rattle.std.proofs.Common.{Bool, true, false, ◌&&◌, List, [], ◌∷◌, ◌++◌, length, map, take, set, get_or}
+use Rattle.std.proofs.Common.{Bool, true, false, ◌&&◌, List, [], ◌∷◌, ◌++◌, length, map, take, set, get_or, Some, slice_get}
 use Rattle.std.specs.Prelude.{IsTrue, slice_index_or}
 use Rattle.std.specs.List.{All, list_all}
 use Rattle.std.proofs.lemmas.Bool.{cases_lt}
 use Rattle.std.proofs.lemmas.List.{get_or-set_same, get_or-set_other, get_or-map, length-map, take_more, map-append}
+use Rattle.std.proofs.lemmas.Option.{slice_get_read}
 use Rattle.std.proofs.lemmas.List.Sums.{AllPass-from_list_all, list_all-from_AllPass}
 use Rattle.machine.specs.Processor.World.{World}
 use Rattle.claims.specs.Holding.{holds, shows, holds_by, shown_by, form_holds}
@@ -94,6 +95,24 @@ claim_at v cs marks n m d are below read =
     let long : length marks ≡ length cs = ap length are ∙ length-map cs (marks_for v) in
     read ∙ ap (λ (ms : List MarksValue). get_or ms n m) are
     ∙ get_or-map (marks_for v) cs n d m (omega (arith, below, long))
+
+-- so its space, and the claim that stands there
+pub space_at : (v : SpaceValue) (cs : List Claim) (marks : List MarksValue) (n : ℕ) (m : MarksValue)
+    → marks ≡ map (marks_for v) cs → n < length marks → m ≡ get_or marks n m → m.space ≡ v
+space_at v cs marks n m are below read =
+    ap (λ (x : MarksValue). x.space) (claim_at v cs marks n m m.claim are below read)
+
+pub there_at : (v : SpaceValue) (cs : List Claim) (marks : List MarksValue) (n : ℕ) (m : MarksValue)
+    → marks ≡ map (marks_for v) cs → n < length marks → m ≡ get_or marks n m → slice_get cs n ≡ Some m.claim
+there_at v cs marks n m are below read =
+    let long : length marks ≡ length cs = ap length are ∙ length-map cs (marks_for v) in
+    slice_get_read cs (length cs) n m.claim refl (omega (arith, below, long))
+    (ap (λ (x : MarksValue). x.claim) (claim_at v cs marks n m m.claim are below read))
+
+-- as many as there are claims
+pub as_many : (v : SpaceValue) (cs : List Claim) (marks : List MarksValue) → marks ≡ map (marks_for v) cs
+    → length marks ≡ length cs
+as_many v cs marks are = ap length are ∙ length-map cs (marks_for v)
 
 -- Claims that hold of each world.
 

@@ -112,7 +112,8 @@ fn places_that_break<const S: usize>(
 {
     let mut places = Vec::new(alloc);
     for place in 0..marks.space().len() {
-        if !holds_at::<S>(alloc, marks, place)? {
+        let holds = holds_at::<S>(alloc, marks, place)?;
+        if !holds {
             places.push(place)?;
         }
     }
