@@ -13,7 +13,7 @@ use Rattle.busy_streams.specs.ScheduleSpaceTypes.Edge.{Edge}
 use Rattle.busy_streams.specs.ScheduleSpace.Spaces.{SpaceValue, count, schedule_of, world_of, machine_after, StandsFor, IsEdgeToStandIn}
 use Rattle.busy_streams.specs.ScheduleSpace.Finding.{found_in}
 use Rattle.busy_streams.proofs.ScheduleSpace.Agreeing.{Named, Live, Asked, ground, agree_both, agree_same}
-use Rattle.schedule_verdicts.specs.Walking.{IsAt, machine_next, VisitValue, IsVisit, AreVisits, LeadsOn, IsWay, AreWays}
+use Rattle.schedule_verdicts.specs.Walking.{IsAt, machine_next, WalkValue, VisitValue, IsVisit, AreVisits, LeadsOn, IsWay, AreWays}
 
 -- one step more
 next_alike : (v : SpaceValue) → IsLive v.image v.live → (k : ℕ) (w : World) (e : Edge) → k < count v → StandsFor v k w
@@ -63,3 +63,11 @@ visit_more v visits visit all is = All-push (IsVisit v) visits visit all is
 pub way_at : (v : SpaceValue) (place : ℕ) (ways : List Edge) (k : ℕ) (e : Edge) → AreWays v place ways → k < length ways
     → e ≡ get_or ways k e → IsWay v place e
 way_at v place ways k e all below is = subst (IsWay v place) (sym is) (all k e below)
+
+-- a walk steps along an edge
+pub step_at : (w u : WalkValue) (way : Edge) (m : MachineValue) → w ≡ u → IsWay u.space u.place way
+    → IsAt w.space w.place w.machine → m ≡ machine_next w.machine way.step → IsAt w.space way.to m
+step_at w u way m view on at is =
+    let here : IsWay w.space w.place way = subst (λ (x : WalkValue). IsWay x.space x.place way) (sym view) on in
+    subst (IsAt w.space way.to) (sym is)
+    (here.leads w.machine (subst (λ (k : ℕ). IsAt w.space k w.machine) (sym here.from) at))

@@ -126,7 +126,7 @@ one_kept v cs all j d within k below = AllPass-from_list_all (holds (world_of v 
 
 -- one claim more, by its marks
 pub kept_more : (v : SpaceValue) (cs : List Claim) (marks : List MarksValue) (n : ℕ) (m : MarksValue)
-    → marks ≡ map (marks_for v) cs → n < length marks → m ≡ get_or marks n m → IsKept m.space m.claim
+    → marks ≡ map (marks_for v) cs → n < length marks → m ≡ get_or marks n m → IsKept v m.claim
     → ((j : ℕ) (d : Claim) → j < n → IsKept v (get_or cs j d)) → (j : ℕ) (d : Claim) → j < n + 1
     → IsKept v (get_or cs j d)
 kept_more v cs marks n m are below read here before j d within = by (cases_lt j n) where
@@ -135,12 +135,12 @@ kept_more v cs marks n m are below read here before j d within = by (cases_lt j 
   by (inr most) =
       let same : n ≡ j = omega (arith, within, most) in
       subst (λ (k : ℕ). IsKept v (get_or cs k d)) same
-      (subst (λ (x : MarksValue). IsKept x.space x.claim) (claim_at v cs marks n m d are below read) here)
+      (subst (λ (x : MarksValue). IsKept v x.claim) (claim_at v cs marks n m d are below read) here)
 
 -- where all hold, one does
 pub kept_here : (v : SpaceValue) (cs : List Claim) (marks : List MarksValue) (n : ℕ) (m : MarksValue)
-    → marks ≡ map (marks_for v) cs → n < length marks → m ≡ get_or marks n m → AreKept v cs → IsKept m.space m.claim
+    → marks ≡ map (marks_for v) cs → n < length marks → m ≡ get_or marks n m → AreKept v cs → IsKept v m.claim
 kept_here v cs marks n m are below read all =
     let long : length marks ≡ length cs = ap length are ∙ length-map cs (marks_for v) in
-    subst (λ (x : MarksValue). IsKept x.space x.claim) (sym (claim_at v cs marks n m m.claim are below read))
+    subst (λ (x : MarksValue). IsKept v x.claim) (sym (claim_at v cs marks n m m.claim are below read))
     (one_kept v cs all n m.claim (omega (arith, below, long)))

@@ -24,7 +24,7 @@ pub(crate) fn are_kept<const S: usize>(
 {
     let marks = marks_of_kept::<S>(alloc, space, claims)?;
     for number in 0..marks.len() {
-        if !is_kept::<S>(alloc, &marks[number])? {
+        if !is_kept::<S>(alloc, space, &marks[number])? {
             return Ok(false);
         }
     }
@@ -32,11 +32,16 @@ pub(crate) fn are_kept<const S: usize>(
 }
 
 /// Whether a claim holds of each world of a space.
-fn is_kept<const S: usize>(alloc: Global, marks: &ClaimMarks<'_, '_>) -> Result<bool, LoadFault>
-    ensures kept { IfOk result (λ b. IsTrue b ↔ IsKept marks.now.space marks.now.claim) }
-    ensures streams { result ≡ Err LoadFault.Streams → S < marks.now.space.image.slim }
+fn is_kept<const S: usize>(
+    alloc: Global,
+    space: &Space<'_>,
+    marks: &ClaimMarks<'_, '_>,
+) -> Result<bool, LoadFault>
+    requires { marks.now.space ≡ space.now }
+    ensures kept { IfOk result (λ b. IsTrue b ↔ IsKept space.now marks.now.claim) }
+    ensures streams { result ≡ Err LoadFault.Streams → S < space.now.image.slim }
 {
-    for place in 0..marks.space().len() {
+    for place in 0..space.len() {
         if !marks.holds::<S>(alloc, place)? {
             return Ok(false);
         }

@@ -36,7 +36,7 @@ pub fn first_unshown<const S: usize>(
     }
     let marks = marks_of_shown::<S>(alloc, space, claims)?;
     for place in 0..marks.len() {
-        if !is_shown::<S>(alloc, &marks[place])? {
+        if !is_shown::<S>(alloc, space, &marks[place])? {
             return Ok(Some(place));
         }
     }
@@ -44,14 +44,17 @@ pub fn first_unshown<const S: usize>(
 }
 
 /// Whether a world of a space shows a claim, or one on the way through its beginning.
-fn is_shown<const S: usize>(alloc: Global, marks: &ClaimMarks<'_, '_>) -> Result<bool, LoadFault>
-    ensures shown { IfOk result (λ b. IsTrue b
-        → IsShown marks.now.space.image marks.now.space.begin marks.now.claim) }
-    ensures unshown { IfOk result (λ b. IsFalse b → IsUnshownIn marks.now.space marks.now.claim) }
-    ensures streams { (result ≡ Err LoadFault.Streams) ↔ (S < marks.now.space.image.slim) }
+fn is_shown<const S: usize>(
+    alloc: Global,
+    space: &Space<'_>,
+    marks: &ClaimMarks<'_, '_>,
+) -> Result<bool, LoadFault>
+    requires { marks.now.space ≡ space.now }
+    ensures shown { IfOk result (λ b. IsTrue b → IsShown space.now.image space.now.begin marks.now.claim) }
+    ensures unshown { IfOk result (λ b. IsFalse b → IsUnshownIn space.now marks.now.claim) }
+    ensures streams { (result ≡ Err LoadFault.Streams) ↔ (S < space.now.image.slim) }
 {
-    let (space, claim) = (marks.space(), marks.claim());
-    if is_shown_on_the_way::<S>(alloc, space.image(), space.begin(), claim)? {
+    if is_shown_on_the_way::<S>(alloc, space.image(), space.begin(), marks.claim())? {
         return Ok(true);
     }
     for place in 0..space.len() {

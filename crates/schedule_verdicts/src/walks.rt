@@ -1,7 +1,7 @@
 //! A walk through the worlds of a space.
 
 ghost use Rattle.std.specs.Prelude.{◌≡◌, ◌<◌, IfOk, OnOk, Err};
-ghost use Rattle.schedule_verdicts.specs.Walking.{IsAt, AreWays, IsWay, LeadsOn, machine_next};
+ghost use Rattle.schedule_verdicts.specs.Walking.{IsAt, IsVisit, AreWays, IsWay, machine_next};
 
 use crate::step_trees::StepTree;
 use busy_streams::space::{Edge, Space};
@@ -129,15 +129,26 @@ impl<'s, 'i, const S: usize> Walk<'s, 'i, S> {
         requires { IsWay self.old.space self.old.place way }
         ensures { OnOk result (self.new ≡ self.old) }
     {
-        let machine = if self.waiting.len() < self.most_kept {
-            Some(copy_along(&self.machine, way)?)
-        } else {
-            None
-        };
-        self.waiting.push(Visit {
-            place: way.to as usize,
-            machine,
-        })?;
+        let place = way.to as usize;
+        if self.waiting.len() >= self.most_kept {
+            return self.wait_at(Visit {
+                place,
+                machine: None,
+            });
+        }
+        let copy = copy_along(&self.machine, way)?;
+        self.wait_at(Visit {
+            place,
+            machine: Some(copy),
+        })
+    }
+
+    /// Keeps a place for later.
+    fn wait_at(&mut self, visit: Visit<'i, S>) -> Result<(), AllocError>
+        requires { IsVisit self.old.space visit }
+        ensures { OnOk result (self.new ≡ self.old) }
+    {
+        self.waiting.push(visit)?;
         Ok(())
     }
 

@@ -6,4 +6,4 @@ use Rattle.busy_streams.specs.ScheduleSpace.Spaces.{world_of}
 use Rattle.schedule_verdicts.proofs.kept_claims.is_kept.Given as goal
 
 abbrev pub invariant-loop-place : goal.invariant-loop-place
-invariant-loop-place g l = (k : ℕ) → k < l.place → IsTrue (holds (world_of l.marks.space k) l.marks.claim)
+invariant-loop-place g l = (k : ℕ) → k < l.place → IsTrue (holds (world_of l.space k) l.marks.claim)

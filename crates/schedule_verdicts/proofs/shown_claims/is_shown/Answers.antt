@@ -6,6 +6,5 @@ use Rattle.schedule_verdicts.proofs.shown_claims.is_shown.Goals as goal
 
 pub returns-then-branch-2-clause-shown : goal.returns-then-branch-2-clause-shown
 returns-then-branch-2-clause-shown g c = λ yes.
-    let m = c.args.marks.now in
-    let on = begun m.space c.len-place-end.ensures.links c.loop-place.place (search rules) in
-    inr (on.0, subst (λ w. IsTrue (shows w m.claim)) (sym on.1) (search rules))
+    let on = begun c.args.space.now c.len-place-end.ensures.links c.loop-place.place (search rules) in
+    inr (on.0, subst (λ w. IsTrue (shows w c.args.marks.now.claim)) (sym on.1) (search rules))
