@@ -1,8 +1,8 @@
 -- A walk goes on along the edges of a space.
-use Rattle.std.proofs.Common.{◌≡◌, ℕ, ◌<◌, refl, sym, ap, ◌∙◌, subst, List, [], ◌∷◌, ◌++◌, length, get_or, Option, Some, None}
+use Rattle.std.proofs.Common.{◌≡◌, ℕ, ◌<◌, refl, sym, ap, ◌∙◌, subst, List, [], ◌∷◌, ◌++◌, length, get_or, Contains, Option, Some, None}
 use Rattle.std.specs.Prelude.{IsTrue}
 use Rattle.std.proofs.lemmas.Option.{same_Some}
-use Rattle.std.proofs.lemmas.List.Elements.{All-push}
+use Rattle.std.proofs.lemmas.List.Elements.{All-push, Contains-get_or}
 use Rattle.image_file.specs.ImageValue.{ImageValue}
 use Rattle.machine.specs.MachineValue.{MachineValue}
 use Rattle.machine.specs.Processor.World.{World, after}
@@ -71,3 +71,14 @@ step_at w u way m view on at is =
     let here : IsWay w.space w.place way = subst (λ (x : WalkValue). IsWay x.space x.place way) (sym view) on in
     subst (IsAt w.space way.to) (sym is)
     (here.leads w.machine (subst (λ (k : ℕ). IsAt w.space k w.machine) (sym here.from) at))
+
+-- an edge of the space leads on from its place
+pub way_among : (v : SpaceValue) → IsLive v.image v.live → ((e : Edge) → Contains v.edges e → IsEdgeToStandIn v e)
+    → (es : List Edge) → es ≡ v.edges → (k : ℕ) (d : Edge) (place : ℕ) → k < length es → (get_or es k d).from ≡ place
+    → IsWay v place (get_or es k d)
+way_among v live each es same k d place below from = record {
+  from = from;
+  leads =
+      leads_on v live (get_or es k d)
+      (each (get_or es k d) (subst (λ (xs : List Edge). Contains xs (get_or es k d)) same (Contains-get_or es k d below)));
+}
