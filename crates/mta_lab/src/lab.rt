@@ -11,7 +11,7 @@ use lab_explorer::show_every_end;
 use lab_grades::{grade, merge};
 use lab_language::serve_language;
 use lab_pages::{write_page, write_picture, write_play_page};
-use lab_requests::{Colours, ExerciseTask, LabCommand};
+use lab_requests::{Colours, ExerciseRequest, ExerciseTask, LabCommand};
 use lab_surveys::survey;
 use lab_views::{compare, view};
 use plain_text::{plain, push_plain};
@@ -171,8 +171,7 @@ fn run_command<X: Threads + Wait + Sync + Clock, F: Files, R: Read + Send, W: Wr
             debug(alloc, inputs, program, *given, *run, &mut screen)
         }
         LabCommand::Exercise(request) if matches!(request.task, ExerciseTask::Watch) => {
-            let (mut printer, mut console) = writers_of(rt, outputs, painting);
-            watch_exercise(rt, alloc, inputs, request, &mut printer, &mut console)
+            watch(rt, alloc, request, inputs, outputs, painting)
         }
         LabCommand::Check(_)
         | LabCommand::Schedule { .. }
@@ -197,24 +196,26 @@ fn run_command<X: Threads + Wait + Sync + Clock, F: Files, R: Read + Send, W: Wr
     }
 }
 
-/// What writes what is printed before an answer is whole, and what looks on at a search.
-fn writers_of<'w, X: Clock, W: Write, E: Write>(
-    rt: &'w X,
-    outputs: &'w mut Outputs<'_, W, E>,
+/// Watches an exercise: what is said of it is printed as it comes.
+fn watch<X: Threads + Wait + Sync + Clock, F: Files, R: Read + Send, W: Write, E: Write>(
+    rt: &X,
+    alloc: Global,
+    request: &ExerciseRequest,
+    inputs: &mut Inputs<'_, F, R>,
+    outputs: &mut Outputs<'_, W, E>,
     painting: Painting,
-) -> (Printer<'w, W>, Console<'w, X, E>) {
-    (
-        Printer {
-            output: &mut *outputs.output,
-            is_coloured: painting.output,
-        },
-        Console {
-            clock: rt,
-            errors: &mut *outputs.errors,
-            is_terminal: outputs.terminals.errors,
-            memory: outputs.memory,
-        },
-    )
+) -> Result<Status, LabFault> {
+    let mut console = Console {
+        clock: rt,
+        errors: &mut *outputs.errors,
+        is_terminal: outputs.terminals.errors,
+        memory: outputs.memory,
+    };
+    let mut printer = Printer {
+        output: &mut *outputs.output,
+        is_coloured: painting.output,
+    };
+    watch_exercise(rt, alloc, inputs, request, &mut printer, &mut console)
 }
 
 /// Runs a command that answers when it is done.
@@ -226,7 +227,16 @@ fn answer_whole<X: Threads + Wait + Sync + Clock, F: Files, R: Read, W: Write, E
     outputs: &mut Outputs<'_, W, E>,
     painting: Painting,
 ) -> Result<Status, LabFault> {
-    let (mut printer, mut console) = writers_of(rt, outputs, painting);
+    let mut console = Console {
+        clock: rt,
+        errors: &mut *outputs.errors,
+        is_terminal: outputs.terminals.errors,
+        memory: outputs.memory,
+    };
+    let mut printer = Printer {
+        output: &mut *outputs.output,
+        is_coloured: painting.output,
+    };
     let answer = answer_to(rt, alloc, command, inputs, &mut printer, &mut console)?;
     tell(answer, outputs, painting)
 }

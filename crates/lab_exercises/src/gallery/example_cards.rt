@@ -40,12 +40,14 @@ pub(crate) fn example_card<C: Clock, F: Files, R: Read, E: Write>(
         return Err(gallery.fault(alloc, level, ONE_PROGRAM)?);
     }
     let example = read_example(alloc, inputs, folder, name)?;
-    card_by_run(alloc, inputs, gallery, name, &example, console)
+    card_by_run(alloc, inputs, gallery, &example, console)
 }
 
 /// An example, and the run that its card shows.
 #[derive(Drop)]
 struct Example {
+    /// What it is called.
+    name: String,
     /// The program.
     program: Program,
     /// The steps of the run.
@@ -77,6 +79,7 @@ fn read_example<F: Files, R: Read>(
     let schedule = shown_schedule(alloc, inputs, folder, name)?;
     let steps = steps_by(alloc, inputs, &program, folder, schedule.as_ref())?;
     Ok(Example {
+        name: String::from_str(alloc, name)?,
         program,
         steps,
         schedule,
@@ -88,28 +91,27 @@ fn card_by_run<C: Clock, F: Files, R: Read, E: Write>(
     alloc: Global,
     inputs: &Inputs<'_, F, R>,
     gallery: &Gallery<'_>,
-    name: &str,
     example: &Example,
     console: &mut Console<'_, C, E>,
 ) -> Result<Card, LabFault> {
     let head = CardHead {
         kind: CardKind::Example,
-        name: String::from_str(alloc, name)?,
-        title: String::from_str(alloc, name)?,
+        name: String::from_str(alloc, &example.name)?,
+        title: String::from_str(alloc, &example.name)?,
         teaches: sentence_of_source(alloc, &example.program.text)?,
         program: None,
     };
     let required = Requirements::none(alloc);
     let schedule = example.schedule_words();
     let shown = ShownProgram {
-        called: name,
+        called: &example.name,
         program: &example.program,
         required: &required,
         steps: &example.steps,
         schedule,
         verdict: RunVerdict::NotJudged,
     };
-    let fails = schedule_name(schedule, name) != ENDS;
+    let fails = schedule_name(schedule, &example.name) != ENDS;
     card_of(alloc, inputs, gallery, head, shown, fails, console)
 }
 
