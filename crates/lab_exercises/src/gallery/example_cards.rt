@@ -50,6 +50,8 @@ struct Example {
     name: String,
     /// The program.
     program: Program,
+    /// What is required of it: nothing.
+    required: Requirements,
     /// The steps of the run.
     steps: Vec<Step>,
     /// The name of the schedule's file, without its end, if there is one.
@@ -81,6 +83,7 @@ fn read_example<F: Files, R: Read>(
     Ok(Example {
         name: String::from_str(alloc, name)?,
         program,
+        required: Requirements::none(alloc),
         steps,
         schedule,
     })
@@ -101,12 +104,11 @@ fn card_by_run<C: Clock, F: Files, R: Read, E: Write>(
         teaches: sentence_of_source(alloc, &example.program.text)?,
         program: None,
     };
-    let required = Requirements::none(alloc);
     let schedule = example.schedule_words();
     let shown = ShownProgram {
         called: &example.name,
         program: &example.program,
-        required: &required,
+        required: &example.required,
         steps: &example.steps,
         schedule,
         verdict: RunVerdict::NotJudged,
