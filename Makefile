@@ -52,7 +52,7 @@ help:
 	@echo "make check-dist unpacks them next to nothing but the C library, and runs the examples there (seconds)"
 	@echo "make hostile    hostile use of the built program; needs Python 3 and a C compiler (11 minutes on two cores, with other work)"
 	@echo "make refuse     the part of it that refuses each allocation of the commands in turn (some minutes)"
-	@echo "make spaces     compares mta_lab on 6,000 random programs with a search, and steps, by a machine of the tests' own (some ten minutes)"
+	@echo "make spaces     compares mta_lab on 7,000 random programs with a search, and steps, by a machine of the tests' own (some ten minutes)"
 	@echo "make pages      the pages in a browser; needs chromium, its driver and Python's selenium, and says what is missing (some minutes)"
 	@echo "make editors    the syntax files, asked by the editors that read them; mta_lab lsp by their clients; mta_lab dap by a client that others' library makes. Says what is missing (seconds)"
 	@echo "make recipes    recipes of docs/GRADING.md that take a bare system, a cluster or a spreadsheet: debootstrap's root, Slurm, LibreOffice. Says what is missing (a minute)"
@@ -163,6 +163,7 @@ spaces: built
 	@python3 tests/spaces
 	@python3 tests/spaces/slips.py
 	@python3 tests/spaces/sentences.py
+	@python3 tests/spaces/starving.py
 
 # what Vim, Neovim, Emacs, Pygments and pandoc take each part of a source text for; then what the clients of Neovim, Emacs and
 # VS Code show of mta_lab lsp, and mta_lab dap by a client of the Debug Adapter Protocol on a library that others wrote
@@ -192,6 +193,7 @@ install:
 	install -D -m 755 $(LAB) $(DESTDIR)$(PREFIX)/bin/mta_lab
 	install -D -m 644 share/man/man1/mta_sim.1 $(SHARE)/man/man1/mta_sim.1
 	install -D -m 644 share/man/man1/mta_lab.1 $(SHARE)/man/man1/mta_lab.1
+	packaging/date_pages.sh $(SHARE)/man/man1 "$$(git log -1 --format=%ct)"
 	install -D -m 644 share/completions/mta_sim.bash $(SHARE)/bash-completion/completions/mta_sim
 	install -D -m 644 share/completions/mta_lab.bash $(SHARE)/bash-completion/completions/mta_lab
 	install -D -m 644 share/completions/_mta_sim $(SHARE)/zsh/site-functions/_mta_sim
@@ -208,6 +210,7 @@ install:
 	cp -r editors/vim/. $(SHARE)/vim/vimfiles
 	cp -r editors/vim/. $(SHARE)/nvim/site
 	install -D -m 644 editors/emacs/mta-mode.el $(SHARE)/emacs/site-lisp/mta-mode.el
+	install -D -m 644 editors/kate/mta.xml $(SHARE)/org.kde.syntax-highlighting/syntax/mta.xml
 	install -m 644 README.md CONTRIBUTING.md CHANGELOG.md $(SHARE)/doc/mta_sim
 	install -m 644 docs/*.md $(SHARE)/doc/mta_sim/docs
 	test ! -e out/TRUST.md || install -m 644 out/TRUST.md $(SHARE)/doc/mta_sim/docs
@@ -223,7 +226,7 @@ uninstall:
 	for folder in vim/vimfiles nvim/site; do \
 	  for file in ftdetect/mta.vim ftplugin/mta.vim syntax/mta.vim compiler/mta_lab.vim; do rm -f $(SHARE)/$$folder/$$file; done; \
 	done
-	rm -f $(SHARE)/emacs/site-lisp/mta-mode.el
+	rm -f $(SHARE)/emacs/site-lisp/mta-mode.el $(SHARE)/org.kde.syntax-highlighting/syntax/mta.xml
 	rm -rf $(SHARE)/doc/mta_sim $(SHARE)/mta_sim
 
 clean:

@@ -282,3 +282,4 @@ views
 searches
 report "lab: check, 65536 lines" "$(best 3 "$lab" check "$work/source" || true)" \
   "$(instructions "$lab" check "$work/source")" 65536 line "$(peak "$lab" check "$work/source")"
+bench/language.py "$lab"

@@ -75,17 +75,10 @@ pages() {
   done
 }
 
-# play_pages FOLDER: beside these a page of each example on which the reader is the scheduler; those that are named here
-# have more states than a page may have
-play_pages() {
-  local source name
-  for source in "$1"/examples/*.asm; do
-    name=$(basename "$source" .asm)
-    case $name in
-      barrier | bounded_buffer | philosophers | readers_writer) ;;
-      *) "$(built mta_lab)" play "$source" --out "$1/pages/$name.play.html" >/dev/null ;;
-    esac
-  done
+# gallery FOLDER: beside these the gallery of the examples and exercises there, with a page of each on which the reader is the
+# scheduler
+gallery() {
+  "$(built mta_lab)" gallery "$1/pages" --exercises "$1/exercises" --examples "$1/examples" >/dev/null
 }
 
 # the tree of the archive: the programs in bin/, and the rest as it lies in the repository
@@ -94,11 +87,12 @@ lay_out_archive() {
   mkdir -p "$1/bin"
   git archive HEAD README.md CONTRIBUTING.md CHANGELOG.md docs examples exercises editors share ':(exclude)share/make' ':(exclude)editors/make' | tar -x -C "$1"
   python3 tests/trust "$1/docs/TRUST.md"
+  packaging/date_pages.sh "$1/share/man/man1" "$SOURCE_DATE_EPOCH"
   for name in $programs; do
     strip_symbols "$(built "$name")" "$1/bin/$name"
   done
   pages "$1"
-  play_pages "$1"
+  gallery "$1"
   packaging/build_facts.sh "$version" "$1/bin" $programs >"$1/BUILD"
   copyright >"$1/COPYRIGHT"
   settle "$1"
@@ -119,11 +113,12 @@ lay_out_debian() {
   done
   # the words of mta_lab debug, which rlwrap completes
   install -D -m 644 "$from/share/completions/mta_lab.rlwrap" "$share/rlwrap/completions/mta_lab"
-  # where Vim, Neovim and Emacs look
+  # where Vim, Neovim, Emacs and Kate look
   mkdir -p "$share/vim/vimfiles" "$share/nvim/site" "$share/emacs/site-lisp"
   cp -r "$from/editors/vim/." "$share/vim/vimfiles"
   cp -r "$from/editors/vim/." "$share/nvim/site"
   cp "$from/editors/emacs/mta-mode.el" "$share/emacs/site-lisp"
+  install -D -m 644 "$from/editors/kate/mta.xml" "$share/org.kde.syntax-highlighting/syntax/mta.xml"
   # Debian has the changes packed, under a name of its own
   sed 's/CHANGELOG\.md/changelog.gz/' "$from/README.md" >"$doc/README.md"
   cp -r "$from/CONTRIBUTING.md" "$from/docs" "$from/examples" "$from/exercises" "$from/pages" "$from/editors" "$from/BUILD" "$doc"

@@ -107,6 +107,27 @@ try_the_rest() {
   done
 }
 
+# the man pages have the commit's day, and the package for Debian has editors' files where they look
+try_places() {
+  local name place from
+  for name in $(tests/built.sh programs); do
+    TZ=UTC git log -1 --date=format-local:%F --format=".TH ${name^^} 1 \"%cd\"" >"$work/wanted"
+    find "$root" -name "$name.1*" -exec zcat -f {} + | sed -n '1s/\(1 "[^"]*"\).*/\1/p' >"$work/got"
+    is "the date of the page of $name" "$work/wanted" "$work/got"
+  done
+  case $package in *.deb) ;; *) return ;; esac
+  while read -r place from; do
+    find "$root/usr/share/$place" -type f -printf '%P\n' | sort >"$work/got"
+    (cd "editors/$from" && find . -type f -printf '%P\n' | sort) >"$work/wanted"
+    is "the files in $place" "$work/wanted" "$work/got"
+  done <<'PLACES'
+vim/vimfiles vim
+nvim/site vim
+emacs/site-lisp emacs
+org.kde.syntax-highlighting/syntax kate
+PLACES
+}
+
 # try_package PACKAGE: unpacks it beside the C library that its programs are linked to
 try_package() {
   package=$1
@@ -120,6 +141,7 @@ try_package() {
   try_debugger
   try_play_pages
   try_the_rest
+  try_places
 }
 
 way=$(changes_root)

@@ -91,7 +91,17 @@ function diagnosticOf(told) {
   diagnostic.source = told.source;
   diagnostic.code = told.code;
   diagnostic.tags = told.tags;
+  diagnostic.relatedInformation = (told.relatedInformation || []).map(it =>
+    new vscode.DiagnosticRelatedInformation(locationOf(it.location), it.message));
   return diagnostic;
+}
+
+/** A way to mend a text. */
+function fixOf(told) {
+  const fix = new vscode.CodeAction(told.title, vscode.CodeActionKind.QuickFix);
+  fix.edit = workspaceEditOf(told.edit);
+  fix.diagnostics = told.diagnostics.map(diagnosticOf);
+  return fix;
 }
 
 /** What the editor asks, each answered by the server. */
@@ -132,6 +142,13 @@ function providers(session) {
         (await ask('formatting', { ...documentOf(document), options: {} })).map(it =>
           vscode.TextEdit.replace(rangeOf(it.range), it.newText)),
     }),
+    register('CodeActions', {
+      provideCodeActions: async (document, range) => {
+        const { start, end } = range;
+        const lines = { start: { line: start.line, character: start.character }, end: { line: end.line, character: end.character } };
+        return (await ask('codeAction', { ...documentOf(document), range: lines, context: { diagnostics: [] } })).map(fixOf);
+      },
+    }, { providedCodeActionKinds: [vscode.CodeActionKind.QuickFix] }),
   ];
 }
 
@@ -178,12 +195,39 @@ function commands(program) {
     }));
 }
 
+/** The task by which the editor checks the open file. */
+const tasksOf = program => ({
+  version: '2.0.0',
+  tasks: [{
+    label: 'check', type: 'process', command: program, args: ['check', '${file}'], problemMatcher: '$mta_lab',
+    group: { kind: 'build', isDefault: true },
+  }],
+});
+
+/** Opens the folder's tasks.json, which is made first where there is none. */
+function tasksCommand(program) {
+  return vscode.commands.registerCommand('mta.tasks', async () => {
+    const [folder] = vscode.workspace.workspaceFolders || [];
+    if (!folder) {
+      vscode.window.showWarningMessage('open a folder first: its tasks are in .vscode/tasks.json');
+      return;
+    }
+    const file = vscode.Uri.joinPath(folder.uri, '.vscode', 'tasks.json');
+    try {
+      await vscode.workspace.fs.stat(file);
+    } catch {
+      await vscode.workspace.fs.writeFile(file, Buffer.from(`${JSON.stringify(tasksOf(program), null, 2)}\n`));
+    }
+    await vscode.window.showTextDocument(file);
+  });
+}
+
 let session;
 
 exports.activate = async context => {
   const program = vscode.workspace.getConfiguration('mta').get('program', 'mta_lab');
   const faults = vscode.languages.createDiagnosticCollection(LANGUAGE);
-  context.subscriptions.push(faults, ...commands(program));
+  context.subscriptions.push(faults, ...commands(program), tasksCommand(program));
   session = new Session(program,
     ({ method, params }) => method === 'textDocument/publishDiagnostics'
       && faults.set(vscode.Uri.parse(params.uri), params.diagnostics.map(diagnosticOf)),

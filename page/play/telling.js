@@ -66,6 +66,7 @@ function scheduleSteps(text) {
 
 function goalLine(e) {
   if (view.goal === null) return [];
+  if (!view.shown) keepReached(e, view.at);
   const fewest = data.ends[view.goal].shortest;
   if (e !== view.goal) return [html("li", { class: "won" }, `Your goal is another: ${goalText(view.goal)}.`)];
   if (view.shown) return [html("li", {}, "This was shown to you. Now find a way yourself: start again.")];

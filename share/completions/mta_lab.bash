@@ -18,25 +18,26 @@ _mta_lab_options() {
         --help'
       ;;
     explore)
-      echo '--given --expect --from --states --seconds --memory --plain --keep --pages --dot --hex --json --color
-        --help'
+      echo '--given --expect --from --states --seconds --memory --plain --waiting --keep --pages --dot --hex --json
+        --color --help'
       ;;
     grade)
       echo '--expect --cases --given --require-names --seeds --steps --all --explore --thorough --states --seconds
         --memory --jobs --no-links --pages --format --undecided --feedback --hex --json --results --part --merge
         --color --help'
       ;;
-    exercise) echo '--hint --page --play --reset --folder --color --help' ;;
+    exercise) echo '--hint --page --play --reset --watch --folder --color --help' ;;
     page) echo '--given --seeds --fair --rounds --seed --steps --title --out --color --help' ;;
     picture) echo '--given --fair --rounds --seed --steps --from --to --title --out --color --help' ;;
     play) echo '--given --expect --from --states --title --goal --out --color --help' ;;
+    gallery) echo '--exercises --examples --color --help' ;;
     asm) echo '--out --color --help' ;;
     explain) echo '--color --help' ;;
     word) echo '--color --help' ;;
     new) echo '--from --color --help' ;;
     *)
-      echo 'check fmt schedule view debug dap lsp compare survey explore grade exercise page picture play asm
-        explain word new --color --help --version'
+      echo 'check fmt schedule view debug dap lsp compare survey explore grade exercise page picture play gallery
+        asm explain word new --color --help --version'
       ;;
   esac
 }
@@ -57,7 +58,8 @@ _mta_lab_value() {
       'picture 2') echo 'files .schedule' ;;
     'new --from') echo 'words lock semaphore mailbox ticket barrier switch' ;;
     *' --expect') echo 'files .expect' ;;
-    *' --keep' | *' --pages' | *' --cases' | *' --feedback' | *' --folder') echo 'folders' ;;
+    *' --keep' | *' --pages' | *' --cases' | *' --feedback' | *' --folder' | *' --exercises' | *' --examples' | \
+      'gallery 1') echo 'folders' ;;
     *' --dot') echo 'files .dot' ;;
     *' --format') echo 'words text tsv json junit gradescope moodle' ;;
     *' --undecided') echo 'words right wrong' ;;
@@ -79,7 +81,7 @@ _mta_lab_value() {
         .chain E1 NotAscii E2 Unknown E3 Operand E4 Range E5 TwoWriters E6 LabelTwice E7 LabelMissing E8 Directive
         E9 Limit E10 NoMemory 101 102 103 104 105 106 107 108 109 110 111 112 113 114 115 116 LOAD STORE FADD TAGGET
         TAGSET PURGE 1 PROGRAM 2 ILLEGAL 3 TRAP3 4 TRAP4 POINTER 5 ALIGN 6 RANGE 7 TRAP0 8 TRAP1 9 FORWARD 10 TRAP10
-        DONE BLOCKED TRAPPED STOPPED SKIPPED deadlock spinning'
+        DONE BLOCKED TRAPPED STOPPED SKIPPED deadlock starvation starving starve fairness fair livelock spinning'
       ;;
   esac
 }

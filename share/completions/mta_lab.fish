@@ -14,6 +14,7 @@ complete -c mta_lab -f -n __fish_use_subcommand -a exercise -d 'Lists exercises,
 complete -c mta_lab -f -n __fish_use_subcommand -a page -d 'Writes a page that shows a run, for a browser'
 complete -c mta_lab -f -n __fish_use_subcommand -a picture -d 'Writes a picture of a run\'s lanes'
 complete -c mta_lab -f -n __fish_use_subcommand -a play -d 'Writes a page on which the reader is the scheduler'
+complete -c mta_lab -f -n __fish_use_subcommand -a gallery -d 'Writes pages of all examples and exercises, and one that leads to them'
 complete -c mta_lab -f -n __fish_use_subcommand -a asm -d 'Assembles a source text, and writes the image'
 complete -c mta_lab -f -n __fish_use_subcommand -a explain -d 'Says what a word of a program, a run or a message means'
 complete -c mta_lab -f -n __fish_use_subcommand -a word -d 'Says what an instruction word says, field by field'
@@ -27,7 +28,8 @@ complete -c mta_lab -n '__fish_seen_subcommand_from schedule survey explore grad
 complete -c mta_lab -n '__fish_seen_subcommand_from view debug compare page picture' -f -k -a '(__fish_complete_suffix .asm; __fish_complete_suffix .image; __fish_complete_suffix .schedule)'
 complete -c mta_lab -n '__fish_seen_subcommand_from dap lsp word new' -f
 complete -c mta_lab -n '__fish_seen_subcommand_from exercise' -f -a '1 2 3 4 5 6 7 8 9 10 11 12 13 14 15 16 17 18 19 20 21 22 23 24 25 26'
-complete -c mta_lab -n '__fish_seen_subcommand_from explain' -f -a '.N normal .F future .S sync .T test full empty full/empty r0 t0 SSW status pointer ADD SUB MUL AND OR XOR ANDN SHL SHR SAR TALLY LTS LTU PTR stream processor schedule seed state race lost_update lost unread_store unread torn_read torn finding waiting waits trap word displacement pc lock complete expectation expect claim ALWAYS EQ NE LT GE LE GT GEU LEU GTU NEG POS OV NOV Z N C V JUMP SKIP CALL XCHG TSET TGET XGET XR RESERVE CREATE QUIT QUITP MASK NOP LIT LITH TLIT .entry .data .fill .word .slim .retry .trap .profile .chain E1 NotAscii E2 Unknown E3 Operand E4 Range E5 TwoWriters E6 LabelTwice E7 LabelMissing E8 Directive E9 Limit E10 NoMemory 101 102 103 104 105 106 107 108 109 110 111 112 113 114 115 116 LOAD STORE FADD TAGGET TAGSET PURGE 1 PROGRAM 2 ILLEGAL 3 TRAP3 4 TRAP4 POINTER 5 ALIGN 6 RANGE 7 TRAP0 8 TRAP1 9 FORWARD 10 TRAP10 DONE BLOCKED TRAPPED STOPPED SKIPPED deadlock spinning'
+complete -c mta_lab -n '__fish_seen_subcommand_from gallery' -f -a '(__fish_complete_directories)'
+complete -c mta_lab -n '__fish_seen_subcommand_from explain' -f -a '.N normal .F future .S sync .T test full empty full/empty r0 t0 SSW status pointer ADD SUB MUL AND OR XOR ANDN SHL SHR SAR TALLY LTS LTU PTR stream processor schedule seed state race lost_update lost unread_store unread torn_read torn finding waiting waits trap word displacement pc lock complete expectation expect claim ALWAYS EQ NE LT GE LE GT GEU LEU GTU NEG POS OV NOV Z N C V JUMP SKIP CALL XCHG TSET TGET XGET XR RESERVE CREATE QUIT QUITP MASK NOP LIT LITH TLIT .entry .data .fill .word .slim .retry .trap .profile .chain E1 NotAscii E2 Unknown E3 Operand E4 Range E5 TwoWriters E6 LabelTwice E7 LabelMissing E8 Directive E9 Limit E10 NoMemory 101 102 103 104 105 106 107 108 109 110 111 112 113 114 115 116 LOAD STORE FADD TAGGET TAGSET PURGE 1 PROGRAM 2 ILLEGAL 3 TRAP3 4 TRAP4 POINTER 5 ALIGN 6 RANGE 7 TRAP0 8 TRAP1 9 FORWARD 10 TRAP10 DONE BLOCKED TRAPPED STOPPED SKIPPED deadlock starvation starving starve fairness fair livelock spinning'
 
 # options
 complete -c mta_lab -n '__fish_seen_subcommand_from check' -l as -x -a 'source image schedule expectations' -d 'all are of this kind: source, image, schedule or expectations'
@@ -56,6 +58,7 @@ complete -c mta_lab -n '__fish_seen_subcommand_from survey explore grade' -l sec
 complete -c mta_lab -n '__fish_seen_subcommand_from survey explore' -l memory -x -d 'of every schedule, the most megabytes of the search [2000]'
 complete -c mta_lab -n '__fish_seen_subcommand_from explore play' -l from -r -k -a '(__fish_complete_suffix .schedule)' -d 'a schedule: only those that begin with it [none]'
 complete -c mta_lab -n '__fish_seen_subcommand_from explore' -l plain -f -d 'explores all states, even if the ends need fewer'
+complete -c mta_lab -n '__fish_seen_subcommand_from explore' -l waiting -f -d 'says who can wait forever, of all states'
 complete -c mta_lab -n '__fish_seen_subcommand_from explore' -l keep -x -a '(__fish_complete_directories)' -d 'writes the schedule to each end into this folder'
 complete -c mta_lab -n '__fish_seen_subcommand_from explore' -l pages -x -a '(__fish_complete_directories)' -d 'writes the page of the run to each end into this folder'
 complete -c mta_lab -n '__fish_seen_subcommand_from explore' -l dot -r -k -a '(__fish_complete_suffix .dot)' -d 'writes the states as a graph for Graphviz, FILE.dot'
@@ -80,6 +83,7 @@ complete -c mta_lab -n '__fish_seen_subcommand_from exercise' -l hint -x -d 'sho
 complete -c mta_lab -n '__fish_seen_subcommand_from exercise' -l page -r -k -a '(__fish_complete_suffix .html)' -d 'writes the page of a run that is not right, FILE.html'
 complete -c mta_lab -n '__fish_seen_subcommand_from exercise' -l play -r -k -a '(__fish_complete_suffix .html)' -d 'writes the page of all schedules, opened where that run ends, FILE.html'
 complete -c mta_lab -n '__fish_seen_subcommand_from exercise' -l reset -f -d 'makes start.asm what it was before you edited it'
+complete -c mta_lab -n '__fish_seen_subcommand_from exercise' -l watch -f -d 'judges your program again each time that you save it'
 complete -c mta_lab -n '__fish_seen_subcommand_from exercise' -l folder -x -a '(__fish_complete_directories)' -d 'where the exercises are [exercises]'
 complete -c mta_lab -n '__fish_seen_subcommand_from page' -l seeds -f -d 'SCHEDULE and OTHER are seeds of random schedules'
 complete -c mta_lab -n '__fish_seen_subcommand_from page picture' -l rounds -f -d 'the running streams step in the order of processor and stream'
@@ -90,6 +94,8 @@ complete -c mta_lab -n '__fish_seen_subcommand_from picture' -l to -x -d 'the la
 complete -c mta_lab -n '__fish_seen_subcommand_from picture' -l out -r -k -a '(__fish_complete_suffix .svg)' -d 'the picture, FILE.svg'
 complete -c mta_lab -n '__fish_seen_subcommand_from play' -l states -x -d 'the most states of the page, 1 to 100000 [100000]'
 complete -c mta_lab -n '__fish_seen_subcommand_from play' -l goal -x -a 'right wrong deadlock stopped spinning broken' -d 'the first goal: right, wrong, deadlock, stopped, spinning, broken, or the number of an end [none]'
+complete -c mta_lab -n '__fish_seen_subcommand_from gallery' -l exercises -x -a '(__fish_complete_directories)' -d 'where the exercises are [exercises]'
+complete -c mta_lab -n '__fish_seen_subcommand_from gallery' -l examples -x -a '(__fish_complete_directories)' -d 'where the examples are [examples]'
 complete -c mta_lab -n '__fish_seen_subcommand_from asm' -l out -r -k -a '(__fish_complete_suffix .image)' -d 'the image file [the source\'s name, with .image]'
 complete -c mta_lab -n '__fish_seen_subcommand_from new' -l from -x -a 'lock semaphore mailbox ticket barrier switch' -d 'what it shows: lock, semaphore, mailbox, ticket, barrier or switch [a count]'
 complete -c mta_lab -l color -x -a 'auto always never' -d 'colours, auto: on a terminal, unless NO_COLOR is set [auto]'

@@ -15,6 +15,8 @@ USUAL = 2000
 BAD_LINES = 1_000_000
 # how many files are written over
 FILES = 2000
+# how many words a long program has
+LONG = 16_000
 
 
 def lab(*words, **how):
@@ -75,12 +77,35 @@ def of_grade(tally, folder):
                         ended.peak <= size * MEGABYTE * MORE + BESIDE)
 
 
+def winding(words):
+    """A program of so many words, in which ways lead back from each eighth one, and much is computed and never read."""
+    at = range(words)
+    lines = [f"l{it}: " + (f"SKIP NE, 0, l{max(0, it - 31)}" if it % 8 == 7 else
+                           f"FADD.N r{1 + it % 30}, r0, 0" if it % 8 == 5 else
+                           f"{'SUB.T' if it % 8 == 3 else 'ADD'} r{1 + it % 30}, r{1 + it * 5 % 30}, r{1 + it * 11 % 30}")
+             for it in at]
+    return "\n".join([" .slim 1", " .entry l0", " .entry l0", " .data 0", " .data 0", " .data 0", *lines, " QUIT", ""]).encode()
+
+
+def leaping(words):
+    """A program of so many words, of which each second one leads to where a target register says."""
+    pairs = words // 2
+    lines = [f"l{it}: TLIT t{it % 8}, l{it * 7919 % pairs}\n JUMP NE, 0, t{(it + 3) % 8}" for it in range(pairs)]
+    return "\n".join([" .slim 1", " .entry l0", " .entry l0", " .data 0", " .data 0", " .data 0", *lines, " QUIT", ""]).encode()
+
+
 def of_time(tally, folder):
-    """A search that --seconds ends, and whose states are looked at after it, for claims."""
+    """A search that --seconds ends, of programs whose ways are looked at before it, and whose states are after it, for
+    claims."""
     counts = write(folder, "counts.asm", growing(1, 4, 1))
+    winds, leaps = write(folder, "winds.asm", winding(LONG)), write(folder, "leaps.asm", leaping(LONG))
     claims = write(folder, "claims.expect", b"always word 8 is 0\nnever word 16 above 7\nsome word 0 is 1\n")
     for what, words in (("claims", (counts, "--expect", claims)),
-                        ("claims of all states", (counts, "--plain", "--expect", claims))):
+                        ("claims of all states", (counts, "--plain", "--expect", claims)),
+                        ("a long program", (winds,)), ("claims of a long program", (winds, "--expect", claims)),
+                        ("claims of all states of a long program", (winds, "--plain", "--expect", claims)),
+                        ("jumps of a long program", (leaps,)),
+                        ("claims of jumps of a long program", (leaps, "--expect", claims))):
         ended = lab("explore", *words, "--seconds", "4", "--states", "1000000000")
         tally.runs += 1
         tally.check(f"{what} in 4 seconds: {ended}", ended.status in (0, 3, 5))

@@ -32,6 +32,8 @@ CONDITIONS = ["ALWAYS", "EQ", "NE", "LT", "GE", "LE", "GT", "LTU", "GEU", "LEU",
 # (the comment that is no ASCII begins to be none behind `; the count of Z`, and the error is in column 1 of line 8)
 WARNING, ERROR = (2, 48), (8, 1)
 REFUSED = "the text has errors: mend them first"
+# what is offered for the error
+FIXES = ["write QUIT"]
 LAB = os.path.join(ROOT, built.path("mta_lab"))
 
 
@@ -68,14 +70,16 @@ def run(words, folder, **more):
 
 
 def by_neovim(folder):
+    # (the script ends Neovim, but where it fails)
     complaint = run(["nvim", "--clean", "--headless", "-n", "-c", "set fileencoding=utf-8", "text.mta", "-S",
-                     os.path.join(HERE, "of_neovim.lua")], folder)
+                     os.path.join(HERE, "of_neovim.lua"), "-c", "cquit"], folder)
     path = os.path.join(folder, "out")
     found = answers(open(path, encoding="utf-8")) if os.path.exists(path) else {}
     # (Neovim counts the columns of what it shows in bytes; one of the letters before the first place takes a byte more)
     wanted = {"first": [[*WARNING, 2, "106"], [*ERROR, 1, "E2"]], "hover": explained("LIT"), "completed": CONDITIONS,
               "definition": {"line": 4, "character": 0}, "references": 2, "symbols": ["start", "again"],
-              "refused": REFUSED, "then": "106", "renamed": 2, "formatted": laid_out().splitlines(), "stopped": True}
+              "refused": REFUSED, "fix": FIXES, "mended": " QUIT", "then": "106", "renamed": 2,
+              "formatted": laid_out().splitlines(), "stopped": True}
     return wanted, found or complaint
 
 
@@ -83,8 +87,9 @@ def by_emacs(folder):
     said = run(["emacs", "--batch", "-l", os.path.join(HERE, "of_emacs.el")], folder)
     found = answers(said.splitlines())
     wanted = {"first": [[*WARNING, "eglot-warning"], [*ERROR, "eglot-error"]], "hover": explained("LIT"), "definition": [4],
-              "references": 2, "completed": ["NE", "NEG", "NOV"], "then": [[*WARNING, "eglot-warning"]], "renamed": 2,
-              "formatted": laid_out().split("\n"), "stopped": True, "refused": True}
+              "references": 2, "completed": ["NE", "NEG", "NOV"], "fix": FIXES, "mended": " QUIT",
+              "then": [[*WARNING, "eglot-warning"]], "renamed": 2, "formatted": laid_out().split("\n"), "stopped": True,
+              "refused": True}
     if isinstance(found.get("refused"), str):
         found["refused"] = REFUSED in found["refused"]
     return wanted, found if len(found) == len(wanted) else said
@@ -97,9 +102,12 @@ def by_vscode(folder):
     absent = json.loads(run(["node", script, os.path.join(folder, "absent"), path], folder))
     wanted = {"first": [[*WARNING, 1, "106"], [*ERROR, 0, "E2"]], "hover": explained("LIT"), "nothing": None,
               "completed": CONDITIONS, "definition": {"line": 4, "character": 0}, "references": 2,
-              "symbols": ["start", "again"], "refused": REFUSED, "then": ["106"], "renamed": 2, "formatted": 2,
-              "sent": ["'LAB' explore '/text.mta'", "'LAB' page '/text.mta' --out '/text'.html"], "warnings": [],
-              "absent": (1, ["mta.check", "mta.survey", "mta.explore", "mta.page", "mta.play"])}
+              "symbols": ["start", "again"], "refused": REFUSED, "fix": [*FIXES, "quickfix", ["E2"]], "mended": ["106"],
+              "then": ["106"], "renamed": 2, "formatted": 2,
+              "sent": ["'LAB' explore '/text.mta'", "'LAB' page '/text.mta' --out '/text'.html"],
+              "tasks": [[True, ["check", "${file}"], "$mta_lab"]], "mine": ["mine", [".vscode/tasks.json"] * 2],
+              "warnings": ["open a folder first: its tasks are in .vscode/tasks.json"],
+              "absent": (1, ["mta.check", "mta.survey", "mta.explore", "mta.page", "mta.play", "mta.tasks"])}
     try:
         found = {**json.loads(said), "absent": (len(absent["warnings"]), absent["commands"])}
     except ValueError:

@@ -60,6 +60,22 @@ use.newName = 'once'
 local _, refused = ask('rename', use)
 say('refused', refused.message)
 
+-- the quick fix of the faulty line, as a user chooses it; and back
+local offered = {}
+vim.ui.select = function(items, options, choose)
+  for _, it in ipairs(items) do
+    table.insert(offered, (options.format_item(it)))
+  end
+  choose(items[1], 1)
+end
+place_of('QUITE')
+vim.lsp.buf.code_action({ only = { 'quickfix' } })
+wait(function() return #vim.diagnostic.get(0) == 1 end)
+say('fix', offered)
+say('mended', vim.api.nvim_buf_get_lines(0, 8, 9, false)[1])
+vim.cmd('undo')
+wait(function() return #vim.diagnostic.get(0) == 2 end)
+
 -- typed: the faulty line is mended, and the diagnostics follow
 vim.cmd([[%s/QUITE/QUIT/]])
 wait(function() return #vim.diagnostic.get(0) == 1 end)

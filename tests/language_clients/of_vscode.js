@@ -36,6 +36,14 @@ const placeOf = (word, from = 0) => {
   return new vscode.Position(front.length - 1, front.at(-1).length);
 };
 
+/** The text after an edit, of which the server hears. */
+const write = ({ range, newText }) => {
+  const at = place => text.split('\n').slice(0, place.line).join('\n').length + (place.line > 0) + place.character;
+  text = text.slice(0, at(range.start)) + newText + text.slice(at(range.end));
+  document.version += 2;
+  seen.listeners.change({ document, contentChanges: [{}] });
+};
+
 async function main() {
   vscode.settings.program = lab;
   vscode.workspace.textDocuments.push(document);
@@ -51,15 +59,28 @@ async function main() {
   out.references = (await ask('Reference', 'provideReferences', place, { includeDeclaration: true })).length;
   out.symbols = (await ask('DocumentSymbol', 'provideDocumentSymbols')).map(it => it.name);
   out.refused = await ask('Rename', 'provideRenameEdits', place, 'once').catch(error => error.message);
-  text = text.replace(' QUITE\n', ' QUIT\n');
-  document.version += 2;
-  seen.listeners.change({ document, contentChanges: [{}] });
+  const [fix] = await ask('CodeActions', 'provideCodeActions', new vscode.Range(placeOf('QUITE'), placeOf('QUITE')));
+  out.fix = [fix.title, fix.kind, fix.diagnostics.map(it => it.code)];
+  fix.edit.edits.forEach(write);
+  out.mended = (await diagnosed(1)).map(it => it.code);
+  write({ range: new vscode.Range(placeOf('QUIT'), placeOf('QUIT')), newText: 'x' });
+  await diagnosed(2);
+  write({ range: new vscode.Range(placeOf('xQUIT'), placeOf('QUIT')), newText: '' });
   out.then = (await diagnosed(1)).map(it => it.code);
   out.renamed = (await ask('Rename', 'provideRenameEdits', place, 'once')).edits.length;
   out.formatted = (await ask('DocumentFormattingEdit', 'provideDocumentFormattingEdits')).length;
   vscode.window.activeTextEditor = { document };
   await seen.commands['mta.explore']();
   await seen.commands['mta.page']();
+  await seen.commands['mta.tasks']();
+  const folder = path.dirname(file);
+  const tasks = path.join(folder, '.vscode', 'tasks.json');
+  vscode.workspace.workspaceFolders = [{ uri: vscode.Uri.parse(`file://${folder}`) }];
+  await seen.commands['mta.tasks']();
+  out.tasks = JSON.parse(fs.readFileSync(tasks, 'utf8')).tasks.map(it => [it.command === lab, it.args, it.problemMatcher]);
+  fs.writeFileSync(tasks, 'mine');
+  await seen.commands['mta.tasks']();
+  out.mine = [fs.readFileSync(tasks, 'utf8'), seen.shown.map(it => path.relative(folder, it))];
   out.sent = seen.sent.map(words => words.replaceAll(lab, 'LAB').replaceAll(path.dirname(file), ''));
   seen.listeners.close(document);
   await diagnosed(0);

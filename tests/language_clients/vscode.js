@@ -2,6 +2,9 @@
 // kept here. tests/language_clients/of_vscode.js runs the extension over it.
 'use strict';
 
+const fs = require('fs').promises;
+const path = require('path');
+
 class Position {
   constructor(line, character) { Object.assign(this, { line, character }); }
 }
@@ -14,11 +17,18 @@ class Location {
 class Uri {
   constructor(text) { this.text = text; }
   static parse(text) { return new Uri(text); }
+  static joinPath(base, ...names) { return new Uri([base.text, ...names].join('/')); }
   toString() { return this.text; }
   get fsPath() { return this.text.replace('file://', ''); }
 }
 class Diagnostic {
   constructor(range, message, severity) { Object.assign(this, { range, message, severity }); }
+}
+class DiagnosticRelatedInformation {
+  constructor(location, message) { Object.assign(this, { location, message }); }
+}
+class CodeAction {
+  constructor(title, kind) { Object.assign(this, { title, kind }); }
 }
 class CompletionItem {
   constructor(label, kind) { Object.assign(this, { label, kind }); }
@@ -41,9 +51,13 @@ class WorkspaceEdit {
 const listeners = {};
 const listen = name => take => { listeners[name] = take; return { dispose() {} }; };
 
-exports.seen = { providers: {}, diagnostics: new Map(), warnings: [], commands: {}, sent: [], listeners };
+exports.seen = { providers: {}, diagnostics: new Map(), warnings: [], commands: {}, sent: [], shown: [], listeners };
 exports.settings = {};
-Object.assign(exports, { Position, Range, Location, Uri, Diagnostic, CompletionItem, DocumentSymbol, Hover, MarkdownString, WorkspaceEdit });
+Object.assign(exports, {
+  Position, Range, Location, Uri, Diagnostic, DiagnosticRelatedInformation, CodeAction, CompletionItem, DocumentSymbol, Hover,
+  MarkdownString, WorkspaceEdit,
+});
+exports.CodeActionKind = { QuickFix: 'quickfix' };
 exports.TextEdit = { replace: (range, newText) => ({ range, newText }) };
 exports.languages = new Proxy({
   createDiagnosticCollection: () => ({
@@ -57,10 +71,19 @@ exports.window = {
   showWarningMessage: words => exports.seen.warnings.push(words),
   terminals: [],
   createTerminal: name => ({ name, show() {}, sendText: text => exports.seen.sent.push(text) }),
+  showTextDocument: async uri => { exports.seen.shown.push(uri.fsPath); },
 };
 exports.commands = { registerCommand: (name, run) => { exports.seen.commands[name] = run; return { dispose() {} }; } };
 exports.workspace = {
   textDocuments: [],
+  // (VS Code makes the folders of a file that it writes)
+  fs: {
+    stat: uri => fs.stat(uri.fsPath),
+    writeFile: async (uri, bytes) => {
+      await fs.mkdir(path.dirname(uri.fsPath), { recursive: true });
+      await fs.writeFile(uri.fsPath, bytes);
+    },
+  },
   getConfiguration: () => ({ get: (name, usual) => exports.settings[name] || usual }),
   onDidOpenTextDocument: listen('open'),
   onDidCloseTextDocument: listen('close'),

@@ -53,6 +53,34 @@ CASES = {
     "rows": (program(EMPTY + FULL, TAKES, LATE, WAITS), "0 0 2\n1 0 1\n2 0 2\n", 4, "Deadlock: 1.0 and 2.0 wait forever",
              ["1.0 waits for [8] of 0.0"]),
 }
+STORES_TWICE = "stores: LIT r1, 5\n STORE.N r1, r0, 0\n STORE.N r1, r0, 1\n STORE.N r1, r0, 1\n LIT r1, 6\n QUIT\n"
+TAKES_IT = "takes: LIT r1, 5\n STORE.N r1, r0, 0\n LOAD.S r2, r0, 0\n LIT r1, 6\n QUIT\n"
+COUNTS = "counts: LOAD.N r1, r0, 0\n ADD r1, r1, 1\n STORE.N r1, r0, 0\n QUIT\n"
+GOES_ON = COUNTS.replace(" QUIT", " LIT r1, 9\n QUIT")
+# by a name: the program, the schedule, the line that the end misses, and the step after which the page opens
+MISSED = {
+    # of word 1 it is the last store of it, in step 4, and not the one before, nor the last step
+    "stores": (program(FULL * 2, STORES_TWICE), "0 0 6\n", "word 8 7", 4),
+    # of word 0 the only one
+    "stores_before": (program(FULL * 2, STORES_TWICE), "0 0 6\n", "word [0] 7", 2),
+    # a word by its name, and one word after it
+    "named": (program(".data 0 ; first\n" + FULL, STORES_TWICE), "0 0 6\n", "word first 7", 2),
+    "after_a_name": (program(".data 0 ; first\n" + FULL, STORES_TWICE), "0 0 6\n", "word first+1 7", 4),
+    # the value is right, and the word was taken in step 3
+    "taken": (program(FULL, TAKES_IT), "0 0 5\n", "word 0 5 full", 3),
+    # the value is not, and the word is as it should be
+    "left_full": (program(FULL, STORES_TWICE.replace("r0, 1", "r0, 0")), "0 0 6\n", "word 0 7 full", 4),
+    # the finding about the word decides: 1.0 stores over what 0.0 stored, in step 7
+    "lost": (program(FULL, COUNTS, COUNTS.replace("counts", "again")), "0 0 1\n1 0 1\n0 0 3\n1 0 3\n", "word 0 2", 7),
+    # nobody has stored in the word: the last step
+    "not_stored": (program(FULL * 3, GOES), "0 0 3\n", "word 16 7", 3),
+    # the schedule ends where the claim does not hold: the last step, and not the lost update of step 8
+    "claim": (program(FULL, GOES_ON, GOES_ON.replace("counts", "again")), "0 0 1\n1 0 1\n0 0 4\n1 0 3\n",
+              "always word 0 is 0", 9),
+    # a claim of a run that goes on to its end: its state is not known, and the page opens by what was found
+    "claim_before": (program(FULL, GOES_ON, GOES_ON.replace("counts", "again")), "0 0 1\n1 0 1\n0 0 4\n1 0 4\n",
+                     "always word 0 is 0", 8),
+}
 # the step after which the page stands, the title, and what the pictures of the end say to who hears them
 SHOWN = """
   const pictures = [...document.querySelectorAll(".ring")];
@@ -61,9 +89,22 @@ SHOWN = """
 """
 
 
+def missed(page):
+    """Where the page opens that knows which line the end misses."""
+    for name, (text, turns, line, step) in MISSED.items():
+        source, schedule = (pathlib.Path(page.folder) / f"{name}.{kind}" for kind in ("asm", "schedule"))
+        source.write_text(text)
+        schedule.write_text(turns)
+        run = runs.run_of(runs.page_of(page.folder, source, schedule))
+        page.open(f"missed_{name}", runs.page({**run, "expected": False, "missed": line}))
+        tally.same(f"missed_{name}: it opens after the step that decides", page.script("return view.position"), step)
+        page.quiet(f"missed_{name}")
+
+
 def part(page):
     if not runs.has_pages():
         return
+    missed(page)
     for name, (text, turns, step, title, drawn) in CASES.items():
         source, schedule = (pathlib.Path(page.folder) / f"{name}.{kind}" for kind in ("asm", "schedule"))
         source.write_text(text)

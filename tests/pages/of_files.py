@@ -10,8 +10,10 @@ LINES, COLUMNS, FUNCTION = 250, 120, 40
 # what would take a text for markup or for a program, or ask for something outside of the page
 ACTING = re.compile(
     r"innerHTML|outerHTML|insertAdjacentHTML|document\.write|\beval\(|new Function|\bfetch\(|XMLHttpRequest|\bimport\b"
-    r"|WebSocket|EventSource|sendBeacon|localStorage|\bsetAttribute\(\"style|\.style\.\w+ ="
+    r"|WebSocket|EventSource|sendBeacon|sessionStorage|indexedDB|cookie|\bsetAttribute\(\"style|\.style\.\w+ ="
 )
+# what a page keeps in the browser: which goals were reached, by these files alone
+KEEPING, KEEPERS = re.compile(r"localStorage"), {"play/kept.js", "gallery/reached.js"}
 BEGIN = re.compile(r"( {2})?(function \w+|\w+)\(.*\) \{$|const \w+ = .*=> \{$")
 MARKUP = re.compile(r"\sstyle=|\son[a-z]+=|\ssrc=|<link|<iframe|<object|https?:")
 
@@ -45,6 +47,8 @@ def scripts(page):
         long = [(what, length) for what, length in functions(text) if length > FUNCTION]
         tally.check(f"the functions of {name} have at most {FUNCTION} lines", not long, long)
         tally.same(f"{name} takes no text for markup and asks for nothing", ACTING.findall(text), [])
+        if f"{page.folder.name}/{name}" not in KEEPERS:
+            tally.same(f"{name} keeps nothing in the browser", KEEPING.findall(text), [])
         tally.check(f"{name} can stand in the page", "</script" not in text.lower() and "<!--" not in text)
 
 

@@ -5,6 +5,7 @@ import of_access
 import of_controls
 import of_files
 import of_firefox
+import of_gallery
 import of_hostile
 import of_pairs
 import of_pictures
@@ -27,6 +28,7 @@ ALL = {
     "play_access": of_play_access.part,
     "ways": of_ways.part,
     **scripts.ALL,
+    "gallery": of_gallery.part,
     "hostile": of_hostile.part,
     "sizes": of_sizes.part,
     "widths": of_widths.part,

@@ -51,9 +51,9 @@ def has_pages():
     return True
 
 
-def call(program, *words, given=None):
+def call(program, *words, given=None, patience=PATIENCE):
     """What a program prints; an error where it does not end well. A status of 3 and more tells how a run ended."""
-    ended = subprocess.run([program, *words], input=given, capture_output=True, text=True, timeout=PATIENCE,
+    ended = subprocess.run([program, *words], input=given, capture_output=True, text=True, timeout=patience,
                            check=False)
     if ended.returncode in (1, 2):
         raise RuntimeError(f"{program} {words}: status {ended.returncode}: {ended.stderr}")

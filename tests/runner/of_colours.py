@@ -33,7 +33,7 @@ FOR_PEOPLE = [["view", "lock.asm", "--seed", "1"], ["view", "philosophers.asm", 
               ["explore", "lock.asm"], ["check", "count.asm"], ["check", "grading/submissions/misspelt.asm"]]
 FOR_PROGRAMS = [["view", "lock.asm", "--json"], ["survey", "lock.asm", "--seeds", "9", "--json"], ["explore", "lock.asm", "--json"],
                 ["check", "count.asm", "--json"], ["compare", "lock.asm", "--seeds", "3", "8", "--json"],
-                ["schedule", "fair", "lock.asm"], ["explain", "full"], ["word", "0x28000"], ["fmt", "-"], ["debug", "lock.asm"],
+                ["schedule", "fair", "lock.asm"], ["explain", "full"], ["word", "0x28000"], ["fmt", "-"],
                 *(["grade", "--expect", "grading/wanted.expect", "grading/submissions/locked.asm", "--format", name]
                   for name in ("tsv", "json", "junit", "gradescope", "moodle"))]
 QUIT = b"        .entry 0\n        .data 0\n        QUIT                    ; right\n"
@@ -51,6 +51,7 @@ def colours():
     for words in FOR_PROGRAMS:
         bare, bright = (lab(*it, given=QUIT, folder=EXAMPLES) for it in (words, with_colours(words)))
         yield f"{words}", bare.out, bright.out
+    yield "debug", (True, True), debugger_is_the_same()
     yield "a file", True, page_is_the_same()
     for path in sorted(glob.glob(os.path.join(table.CASES, "lab_check/*.asm"))):
         bare, bright = lab("check", path), lab("check", path, "--color=always")
@@ -73,6 +74,12 @@ def with_colours(words):
     """A command line with the option at its end; that of `word` before its words, after which nothing is an option."""
     place = 1 if words[0] == "word" else len(words)
     return [*words[:place], "--color", "always", *words[place:]]
+
+
+def debugger_is_the_same():
+    """Whether a session in colours is the same without them, and whether it has some."""
+    bare, bright = (lab("debug", "lock.asm", "--color", when, given=b"continue\n", folder=EXAMPLES).out for when in ("never", "always"))
+    return COLOUR.sub(b"", bright) == bare, bright != bare
 
 
 def page_is_the_same():

@@ -3,6 +3,7 @@ debugger says in its own commands."""
 
 import glob
 import os
+import pty
 import random
 import re
 
@@ -16,8 +17,8 @@ LINES = 120
 NO_PLACE = b"until takes a label, as eat or eat+1, or a line\n"
 NO_BREAK = b"break takes a label, as eat or eat+1, or a line, perhaps after a processor\n"
 AT = re.compile(rb"after (\d+) of (\d+) steps")
-# words that stand behind info or watch
-BEHIND_ANOTHER = {"streams", "threads", "points", "waiting", "registers", "tags"}
+# words that stand behind info, watch or delete
+BEHIND_ANOTHER = {"streams", "threads", "points", "waiting", "registers", "tags", "trap"}
 WORD = re.compile(rb"\[(\d+)\] (-?\d+), (full|empty)")
 
 
@@ -73,6 +74,38 @@ def places():
         wanted = "".join(f"point {p}: processor {p} at {told}\n" for p in range(4)).encode()
         yield place, lambda place=place, wanted=wanted: (wanted, behind_the_first_line(f"break {place}"))
     yield "of a processor", b"point 0: processor 2 at bare+1\n", behind_the_first_line("break 2 bare+1")
+
+
+@checks.others("lab/debug_on_a_terminal")
+def on_terminal():
+    """Where a person types there is a word on rlwrap, and a prompt, whose line the end of the input ends."""
+    greeting = b"help lists the words; rlwrap mta_lab debug .. has arrow keys and a history\n"
+    begin = of_lab.lab("debug", "lock.asm", folder=of_lab.EXAMPLES).out
+    for keys, said in ((b"\x04", b"\n"), (b"quit\n", b"quit\n")):
+        yield f"{keys!r}", greeting + begin + b"(mta) " + said, typed(keys)
+
+
+def typed(keys):
+    """What a person sees of a session who types these keys at the first prompt."""
+    child, terminal = pty.fork()
+    if child == 0:
+        os.chdir(of_lab.EXAMPLES)
+        os.execv(tool.LAB, [tool.LAB, "debug", "lock.asm", "--color", "never"])
+    seen, is_typed = b"", False
+    while True:
+        try:
+            piece = os.read(terminal, 65536)
+        except OSError:
+            break
+        if not piece:
+            break
+        seen += piece
+        if seen.endswith(b"(mta) ") and not is_typed:
+            os.write(terminal, keys)
+            is_typed = True
+    os.waitpid(child, 0)
+    os.close(terminal)
+    return seen.replace(b"\r\n", b"\n")
 
 
 @checks.others("lab/debug_long_lines")

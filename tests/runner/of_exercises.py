@@ -4,8 +4,11 @@ that belongs to it, or none. And what the command `exercise` says."""
 import contextlib
 import os
 import re
+import select
 import shutil
+import subprocess
 import tempfile
+import time
 
 import checks
 import table
@@ -118,6 +121,20 @@ def wrong(fields):
     return sentence_of(exercise, beginning), said
 
 
+@checks.each("exercises/missed.tsv")
+def missed(fields):
+    """How what is missed is said in words."""
+    program, words, expected, verdict, sentence = fields
+    files = {"task.md": "# One\n", "hints.md": "## Hint 1\n", "advice": "", "start.asm": program, "cases/one.data": words,
+             "cases/one.expect": expected + "\\n"}
+    with tempfile.TemporaryDirectory(prefix="mta-case-") as folder:
+        os.makedirs(os.path.join(folder, "exercises/01_one/cases"))
+        for name, text in files.items():
+            tool.write(os.path.join(folder, "exercises/01_one", name), unescaped(text))
+        said = lab("exercise", "1", folder=folder).out.decode().splitlines()
+    return [f"exercise 1, One: {verdict}", f"exercises/01_one/start.asm: case one: {sentence}"], said[:2]
+
+
 @checks.each("exercises/facts.tsv")
 def facts(fields):
     """Whether a line of advice is said of a program."""
@@ -136,8 +153,8 @@ def advice(fields):
     with copied("03_lock") as folder:
         tool.write(os.path.join(folder, "exercises", "03_lock", "advice"), unescaped(text))
         ended = lab("exercise", "3", folder=folder)
-    said = b"" if err else b"First."
-    return (int(status), said, unescaped(err)), (ended.status, b"".join(ended.out.splitlines()[2:3]), ended.err)
+    said = None if err else "First."
+    return (int(status), said, unescaped(err)), (ended.status, sentence_in(ended.out), ended.err)
 
 
 # the command `exercise`, beside what `grade` says of the same program, put into words by the rules of docs/LAB_REFERENCE.md
@@ -147,11 +164,15 @@ ALL_DONE = ("These are all. What you have learnt is enough for programs of your 
             "with.")
 AFTER_SENTENCE = ("All messages: ", "To look at this run:", "A hint: ")
 QUICK = ("--states", "20000", "--seeds", "20", "--steps", "2000")
-# an exercise, and what takes the place of its start: a file of its own, or a text; None where it is gone
+# an exercise; what takes the place of its start: a file of its own, or a text, None where it is gone; and what is missed, in
+# words, worked out by hand
 TOLD = [
-    ("01_hand_over", "wrong/counts_bytes.asm"), ("03_lock", "start.asm"), ("03_lock", "solution.asm"),
-    ("03_lock", "wrong/keeps_the_lock.asm"), ("05_semaphore", "wrong/keeps_the_place.asm"), ("11_reduction", "start.asm"),
-    ("13_trap_handler", "solution.asm"), ("03_lock", " .entry go\n .data 0\ngo: QUITE\n"), ("03_lock", None),
+    ("01_hand_over", "wrong/counts_bytes.asm", "[16] should be 7, and is 0"),
+    ("03_lock", "start.asm", "[8] should be 4, and is 1"), ("03_lock", "solution.asm", None),
+    ("03_lock", "wrong/keeps_the_lock.asm", None), ("05_semaphore", "wrong/keeps_the_place.asm", None),
+    ("11_reduction", "start.asm", "the program should have a word with CREATE, and has none"),
+    ("13_trap_handler", "solution.asm", None), ("26_barbershop", "solution.asm", None),
+    ("03_lock", " .entry go\n .data 0\ngo: QUITE\n", None), ("03_lock", None, None),
 ]
 
 
@@ -208,13 +229,25 @@ def shown_run(path, why, number):
             f"To choose each step yourself: mta_lab exercise {number} --play play.html"]
 
 
-def told(exercise, program, verdict, why):
+def in_words(verdict, why, missed):
+    """What is said of a program, as lines: what is missed in words in place of the line, and then what shows it. Of a deadlock
+    nothing is said to be missed."""
+    bare = re.sub(r"(schedule [\d ,]+|seed \d+|at the start): not [^:;]*", r"\1", why, count=1)
+    if missed is None:
+        return [bare if verdict == "deadlock" else why]
+    case, _, shows = bare.partition(": ")
+    return [f"{case}: {missed}", shows]
+
+
+def told(exercise, program, verdict, why, missed):
     """What `exercise N` prints of a program."""
     path, number = f"exercises/{exercise}", int(exercise[:2])
-    lines = [f"exercise {number}, {title_of(exercise)}: {verdict}", f"{path}/start.asm: {why}"]
+    first, *more = in_words(verdict, why, missed)
+    lines = [f"exercise {number}, {title_of(exercise)}: {verdict}", f"{path}/start.asm: {first}", *more]
     beginnings = {(row.fields[0], file_of(row.fields[1])): row.fields[2] for row in table.rows("exercises/wrong.tsv")}
     if verdict == "right":
-        return [*lines, *next_after(exercise)]
+        last = [] if next_after(exercise) else [f"1 of {len(exercises())} are done."]
+        return [*lines, *next_after(exercise), *last]
     sentence = beginnings.get((exercise, program))
     lines += [sentence_of(exercise, sentence)] if sentence else []
     lines += [f"All messages: mta_lab check {path}/start.asm"] if verdict == "source fault" else []
@@ -223,7 +256,13 @@ def told(exercise, program, verdict, why):
 
 def sentence_said(exercise, folder):
     """The sentence that `exercise` says of the start in a folder; None where it says none."""
-    lines = lab("exercise", exercise[:2], folder=folder).out.decode().splitlines()[2:3]
+    return sentence_in(lab("exercise", exercise[:2], folder=folder).out)
+
+
+def sentence_in(out):
+    """The sentence of the advice in what `exercise` prints: it stands after the verdict and what shows it, which begins with a
+    small letter."""
+    lines = [line for line in out.decode().splitlines()[2:] if not line[:1].islower()][:1]
     return next((line for line in lines if not line.startswith(AFTER_SENTENCE)), None)
 
 
@@ -235,13 +274,13 @@ def warned(exercise, folder):
                     and "(explain 106)" not in message and "(explain 114)" not in message][:3])
 
 
-def tells(exercise, program):
+def tells(exercise, program, missed):
     with copied() as folder:
         put(folder, exercise, program)
         verdict, why, status = row_of(folder, exercise, THOROUGH)
         warnings = "" if verdict == "right" or program is None else warned(exercise, folder)
         said = lab("exercise", exercise[:2], folder=folder)
-    wanted = "".join(line + "\n" for line in told(exercise, program, verdict, why))
+    wanted = "".join(line + "\n" for line in told(exercise, program, verdict, why, missed))
     return (status, wanted.encode(), warnings.encode()), (said.status, said.out, said.err)
 
 
@@ -313,6 +352,60 @@ def resets():
                  [(call.status, call.out.decode()) for call in said], texts)
 
 
+KEYS = b"Type h for a hint, p for a page of the run, n for the next exercise, or q to end; then Enter.\n"
+SECONDS = 60
+
+
+def read_as_many(process, wanted):
+    """What a process prints, up to as many bytes as are wanted, or to its end."""
+    read, end = b"", time.monotonic() + SECONDS
+    while len(read) < len(wanted) and time.monotonic() < end:
+        if select.select([process.stdout], [], [], 1)[0]:
+            piece = os.read(process.stdout.fileno(), len(wanted) - len(read))
+            if not piece:
+                break
+            read += piece
+    return read
+
+
+def watches():
+    """A program that is watched is judged when it changes, as `exercise` judges it; and lines are answered in between."""
+    with copied() as folder:
+        def judged(program, number="1"):
+            if program:
+                put(folder, "01_hand_over", program)
+            return lab("exercise", number, folder=folder).out
+
+        right = judged("solution.asm") + f"1 of {len(exercises())} are done.\n".encode()
+        wrong = judged("wrong/looks_at_once.asm")
+        path = "exercises/02_counter"
+        second = f"{path}/task.md says what to do in {path}/start.asm\n".encode() + judged(None, "2")
+        hints = [lab("exercise", "1", "--hint", number, folder=folder).out for number in ("1", "2")]
+        talk = [(None, KEYS + wrong), (b"h\n", hints[0]), (b" h\n", hints[1]), (b"p\n", wrong + b"run.html: open it in a browser\n"),
+                ("solution.asm", right), (b"what\n", KEYS), (b"n\n", second)]
+        with subprocess.Popen([tool.LAB, "exercise", "1", "--watch"], cwd=folder, stdin=subprocess.PIPE,
+                              stdout=subprocess.PIPE, stderr=subprocess.DEVNULL) as process:
+            said = []
+            for given, wanted in talk:
+                if isinstance(given, str):
+                    put(folder, "01_hand_over", given)
+                elif given:
+                    process.stdin.write(given)
+                    process.stdin.flush()
+                said.append(read_as_many(process, wanted))
+            rest, _ = process.communicate(b"q\n", timeout=SECONDS)
+        is_page = os.path.exists(os.path.join(folder, "run.html"))
+    return ([wanted for _, wanted in talk], b"", 0, True), (said, rest, process.returncode, is_page)
+
+
+def watches_to_the_end_of_input():
+    """Where standard input has ended the program is judged once."""
+    with copied("03_lock") as folder:
+        once = lab("exercise", "3", folder=folder)
+        said = lab("exercise", "3", "--watch", folder=folder)
+    return (0, KEYS + once.out, once.err), (said.status, said.out, said.err)
+
+
 def hints_of(exercise):
     """The hints of an exercise, each with its title."""
     return ["Hint " + hint for hint in text_of(exercise, "hints.md").split("## Hint ")[1:]]
@@ -327,8 +420,8 @@ def shows_hint(exercise, number):
 
 @checks.others("exercises/command")
 def command():
-    for exercise, program in TOLD:
-        yield f"{exercise} {program!r}", lambda exercise=exercise, program=program: tells(exercise, program)
+    for row in TOLD:
+        yield f"{row[0]} {row[1]!r}", lambda row=row: tells(*row)
     for solved, tried in (([], []), (exercises()[:2], exercises()[2:4]), (exercises(), [])):
         yield f"{len(solved)} are solved", lambda solved=solved, tried=tried: lists(solved, tried)
     for exercise in exercises():
@@ -337,6 +430,8 @@ def command():
     yield "a page of all schedules", lambda: writes_page("--play", ["Hand over one number, case ", "you are the scheduler"])
     yield "no page of a right program", no_page
     yield "a reset", resets
+    yield "--watch", watches
+    yield "--watch without input", watches_to_the_end_of_input
     for exercise in exercises():
         for number in range(1, len(hints_of(exercise)) + 1):
             yield f"{exercise}, hint {number}", lambda exercise=exercise, number=number: shows_hint(exercise, number)

@@ -2,6 +2,7 @@
 with these words in its text. And the warnings of `check` above the answers of `explore` and `survey`."""
 
 import os
+import re
 import tempfile
 
 import checks
@@ -76,23 +77,29 @@ def given_words():
         "without a label\n")
 
 
-# a condition that never holds, and a result that is lost, of which nothing is said above an answer
+# a condition that never holds; one that always holds, by which a loop never ends; and a result that is lost. Each with the
+# numbers of what `check` says: of these 107 alone is said above an answer
 NEVER = " .entry go\n .data 0\ngo: ADD r2, r1, 3\n SKIP EQ, 0, out\n LIT r3, 1\nout: QUIT\n"
+ALWAYS = " .entry go\n .data 0\ngo: ADD r2, r1, 3\n SKIP NE, 0, go\n QUIT\n"
 LOST = " .entry go\n .data 0\ngo: ADD r0, r1, 3\n QUIT\n"
+WARNED = [("never holds", NEVER, ["107"]), ("always holds", ALWAYS, ["107", "110"]), ("is lost", LOST, ["113"])]
 
 
-def is_warned(command, program, is_shown):
-    """Whether standard error has just what `check` says."""
+def is_warned(command, program, numbers):
+    """Whether standard error has just what `check` says with the number 107."""
     checked = answer(program, ("check", "p.asm"), b"", None)[2]
-    return (True, checked if is_shown else b""), (b": warning: " in checked, answer(program, (*command, "p.asm"), b"", None)[2])
+    messages = re.split(rb"(?m)^(?=p\.asm:)", checked)[1:]
+    told = [re.search(rb"\(explain (\d+)\)", message).group(1).decode() for message in messages]
+    wanted = b"".join(message for message, number in zip(messages, told) if number == "107")
+    return (numbers, wanted), (sorted(told), answer(program, (*command, "p.asm"), b"", None)[2])
 
 
 @checks.others("lab/warned answers")
 def warned_answers():
     for command in (("explore",), ("survey",), ("explore", "--json")):
-        for name, program, is_shown in (("never holds", NEVER, True), ("is lost", LOST, False)):
+        for name, program, numbers in WARNED:
             yield (f"{' '.join(command)}: {name}",
-                   lambda c=command, p=program, s=is_shown: is_warned(c, p, s))
+                   lambda c=command, p=program, n=numbers: is_warned(c, p, n))
 
 
 IDIOMS = ("lock", "semaphore", "mailbox", "ticket", "barrier", "switch")

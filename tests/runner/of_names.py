@@ -126,7 +126,7 @@ def unknown():
         def check(folder, name=name, said=said):
             viewed = told(lab(folder, "view", "p.asm", "--word", name))
             debugged = lab(folder, "debug", "p.asm", given=f"watch {name}\n".encode()).out.split(b"\n")[1]
-            wanted = said if "\x1b" not in name else b"watch takes a word, as [8], or [8] tags"
+            wanted = said if "\x1b" not in name else b"watch takes a word or a register, as [8], [8] tags or r2"
             return ((1, b"", b"mta_lab: --word: " + said + b"\n"), wanted), (viewed, debugged)
         yield name, lambda check=check: with_folder(check, p_asm=SOURCE)
     for name in ("totl", "[a]"):

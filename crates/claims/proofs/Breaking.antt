@@ -4,8 +4,8 @@ use Rattle.std.proofs.Common.{List, [], ◌∷◌, ◌++◌, length, drop, get_o
 use Rattle.std.proofs.Math.Seq.{drop-cons}
 use Rattle.std.proofs.Math.ListN.{drop_of_length-le}
 use Rattle.image_file.specs.ImageValue.{ImageValue}
-use Rattle.processor.specs.World.{World, after}
-use Rattle.processor.specs.declared.steps.Step.{Step}
+use Rattle.machine.specs.Processor.World.{World, after}
+use Rattle.machine.specs.ProcessorTypes.Step.{Step}
 use Rattle.claims.specs.declared.claim.Claim.{Claim}
 use Rattle.claims.specs.Holding.{holds}
 use Rattle.claims.specs.Breaks.{breaks_from, unless_so}

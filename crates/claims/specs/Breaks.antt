@@ -1,8 +1,8 @@
 -- Where a claim is broken on the way through a schedule.
 use Rattle.std.specs.Prelude.{ℕ, ◌+◌, Bool, List, [], ◌∷◌, if◌then◌else◌}
 use Rattle.image_file.specs.ImageValue.{ImageValue}
-use Rattle.processor.specs.World.{World, after}
-use Rattle.processor.specs.declared.steps.Step.{Step}
+use Rattle.machine.specs.Processor.World.{World, after}
+use Rattle.machine.specs.ProcessorTypes.Step.{Step}
 use Rattle.claims.specs.declared.claim.Claim.{Claim}
 use Rattle.claims.specs.Holding.{holds}
 

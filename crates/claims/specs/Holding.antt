@@ -7,10 +7,10 @@ use Rattle.tag_memory.specs.Cell.{Cell}
 use Rattle.tag_memory.specs.Storage.{cell_at}
 use Rattle.stream_core.specs.Arithmetic.{signed}
 use Rattle.stream_core.specs.Streams.{StreamValue}
-use Rattle.processor.specs.Processors.{ProcessorValue}
-use Rattle.processor.specs.Records.{is_running}
-use Rattle.processor.specs.World.{World}
-use Rattle.processor.specs.declared.steps.Step.{Step}
+use Rattle.machine.specs.Processor.Processors.{ProcessorValue}
+use Rattle.machine.specs.Processor.Records.{is_running}
+use Rattle.machine.specs.Processor.World.{World}
+use Rattle.machine.specs.ProcessorTypes.Step.{Step}
 use Rattle.claims.specs.declared.claim.Claim.{Claim}
 use Rattle.claims.specs.declared.claim.ClaimForm.{ClaimForm}
 use Rattle.claims.specs.declared.claim.ClaimForm.TheVariants as form

@@ -5,7 +5,7 @@ ghost use Rattle.claims.specs.Breaks.{breaks_from, unless_so};
 
 use crate::claim::Claim;
 use machine::Machine;
-use processor::Step;
+use machine::processors::Step;
 use std::alloc::{AllocError, Global};
 
 impl Claim {

@@ -1,6 +1,6 @@
 //! What can be claimed of the worlds that a program comes to.
 
-use processor::Step;
+use machine::processors::Step;
 
 /// A claim about the worlds that a program comes to.
 #[derive(Drop)]

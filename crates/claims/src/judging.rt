@@ -3,13 +3,13 @@
 ghost use Rattle.std.specs.Prelude.{◌≡◌};
 ghost use Rattle.std.specs.List.{count_by};
 ghost use Rattle.std.specs.Option.{option_copied};
-ghost use Rattle.processor.specs.Records.{is_running_status};
+ghost use Rattle.machine.specs.Processor.Records.{is_running_status};
 ghost use Rattle.claims.specs.Holding.{holds, shows, form_holds, word_holds, is_so, is_less, stream_at};
 ghost use Rattle.claims.specs.Holding.{runs_at_places, count_at_places, holds_by, shown_by};
 
 use crate::claim::{Claim, ClaimForm, NumberOrder, Scope, WordTest};
 use machine::Machine;
-use processor::Step;
+use machine::processors::Step;
 use stream_core::{Status, Stream};
 use tag_memory::Word;
 

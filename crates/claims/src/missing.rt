@@ -5,7 +5,7 @@ ghost use Rattle.claims.specs.Missing.{missing_in, has_word, has_stream, missing
 
 use crate::claim::{Claim, ClaimForm};
 use image_file::Image;
-use processor::Step;
+use machine::processors::Step;
 
 /// A part of a machine that a claim speaks of, and that the machine of an image does not have.
 #[derive(Clone, Copy, Debug, PartialEq, Eq)]

@@ -3,8 +3,8 @@ use Rattle.std.proofs.Common.{◌≡◌, ℕ, zero, suc, ◌+◌, ◌<◌, Bool,
 use Rattle.std.proofs.Common.{refl, ap, ◌∙◌, arith, ne_eqb, Option, Some, None, ◌&&◌}
 use Rattle.std.specs.List.{list_all, slice_get}
 use Rattle.stream_core.specs.Streams.{StreamValue}
-use Rattle.processor.specs.Processors.{ProcessorValue, is_idle, count_current, IsCounted}
-use Rattle.processor.specs.World.{counts_at}
+use Rattle.machine.specs.Processor.Processors.{ProcessorValue, is_idle, count_current, IsCounted}
+use Rattle.machine.specs.Processor.World.{counts_at}
 use Rattle.expectations.specs.Meeting.{all_idle, all_idle_at}
 
 -- Of a processor just where none is current.

@@ -7,8 +7,8 @@ use Rattle.stream_core.specs.Streams.{StreamValue}
 use Rattle.stream_core.specs.Traps.{trap_number}
 use Rattle.stream_core.specs.declared.steps.Status.{Status}
 use Rattle.stream_core.specs.declared.steps.Status.TheVariants as status
-use Rattle.processor.specs.Processors.{ProcessorValue, is_idle}
-use Rattle.processor.specs.World.{World}
+use Rattle.machine.specs.Processor.Processors.{ProcessorValue, is_idle}
+use Rattle.machine.specs.Processor.World.{World}
 use Rattle.expectations.specs.MemoryWords.{is_word, is_compared}
 use Rattle.expectations.specs.WordRanges.{word_count, are_words, is_sum}
 use Rattle.expectations.specs.declared.expectation.Expectation.{Expectation}

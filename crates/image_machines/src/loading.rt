@@ -1,7 +1,7 @@
 //! The machine of an image before its first step.
 
 ghost use Rattle.std.specs.Prelude.{◌≡◌, IfOk};
-ghost use Rattle.processor.specs.World.{start};
+ghost use Rattle.machine.specs.Processor.World.{start};
 
 use image_file::Image;
 use machine::{LoadFault, Machine};

@@ -5,6 +5,7 @@ use crate::file_commands::{
     ASM_ARGUMENTS, CHECK_ARGUMENTS, EXERCISE_ARGUMENTS, EXPLAIN_ARGUMENTS, FMT_ARGUMENTS,
     NEW_ARGUMENTS, WORD_ARGUMENTS,
 };
+use crate::gallery_command::GALLERY_ARGUMENTS;
 use crate::help;
 use crate::many_runs_commands::{EXPLORE_ARGUMENTS, GRADE_ARGUMENTS, SURVEY_ARGUMENTS};
 use crate::play_command::PLAY_ARGUMENTS;
@@ -46,6 +47,8 @@ pub(crate) enum CommandName {
     Picture,
     /// `play`.
     Play,
+    /// `gallery`.
+    Gallery,
     /// `asm`.
     Asm,
     /// `explain`.
@@ -72,7 +75,7 @@ pub(crate) struct CommandWords {
 }
 
 /// The commands, in the order of the help.
-pub(crate) const COMMANDS: [CommandWords; 19] = [
+pub(crate) const COMMANDS: [CommandWords; 20] = [
     CommandWords {
         command: CommandName::Check,
         name: "check",
@@ -177,6 +180,13 @@ pub(crate) const COMMANDS: [CommandWords; 19] = [
         about: "Writes a page on which the reader is the scheduler",
         long: help::PLAY,
         arguments: &PLAY_ARGUMENTS,
+    },
+    CommandWords {
+        command: CommandName::Gallery,
+        name: "gallery",
+        about: "Writes pages of all examples and exercises, and one that leads to them",
+        long: help::GALLERY,
+        arguments: &GALLERY_ARGUMENTS,
     },
     CommandWords {
         command: CommandName::Asm,

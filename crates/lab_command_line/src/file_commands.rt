@@ -83,7 +83,7 @@ pub(crate) const ASM_ARGUMENTS: [Argument; 2] = [
 ];
 
 /// Of `exercise`.
-pub(crate) const EXERCISE_ARGUMENTS: [Argument; 6] = [
+pub(crate) const EXERCISE_ARGUMENTS: [Argument; 7] = [
     Argument(
         "NUMBER",
         "the exercise, by its number or its name [lists all]",
@@ -112,6 +112,11 @@ pub(crate) const EXERCISE_ARGUMENTS: [Argument; 6] = [
         "reset",
         "makes start.asm what it was before you edited it",
         Form::Flag(&["hint", "page", "play"]),
+    ),
+    Argument(
+        "watch",
+        "judges your program again each time that you save it",
+        Form::Flag(&["hint", "page", "play", "reset"]),
     ),
     Argument(
         "folder",
@@ -195,6 +200,9 @@ fn task_of<'a>(found: &ArgMatches<'a>) -> ExerciseTask<'a> {
     if found.get_flag("reset") {
         return ExerciseTask::Reset;
     }
+    if found.get_flag("watch") {
+        return ExerciseTask::Watch;
+    }
     if let Some(hint) = found.get_one::<usize>("hint") {
         return ExerciseTask::Hint(hint);
     }
@@ -218,6 +226,9 @@ pub(crate) fn exercise_misfit(found: &ArgMatches) -> Option<&'static str> {
     }
     if found.get_flag("reset") && !found.contains_id("NUMBER") {
         return Some("--reset takes the number of an exercise");
+    }
+    if found.get_flag("watch") && !found.contains_id("NUMBER") {
+        return Some("--watch takes the number of an exercise");
     }
     None
 }

@@ -131,6 +131,11 @@ word ADDRESS is|above|below VALUE, word ADDRESS full|empty, or at most N of P.S 
 above and below compare signed if VALUE has a sign (-1, +3), or if signed follows it (below 0
 signed). Else a word is a number from 0 on: -1 is above 5, and none is below 0.
 
+--waiting also says who can wait forever. It explores all states, and looks for rounds: steps that
+come back to the same state, and so can be taken again and again. A round is fair by words if each
+stream that runs has a step in it, and each that is not always blocked completes one. A stream can
+wait forever if it is blocked at each of its steps in such a round.
+
 --keep FOLDER writes the schedule to each end as FOLDER/1.schedule and so on. --pages FOLDER writes
 the page of its run (mta_lab page --help), as FOLDER/1_deadlock.html and so on.
 
@@ -139,6 +144,7 @@ says which ends can still be reached, and the schedules to the ends are bold. --
 
 Examples:
   mta_lab explore lock.asm
+  mta_lab explore lock.asm --waiting
   mta_lab explore race.asm --plain --dot race.dot && dot -Tsvg race.dot > race.svg";
 
 pub(crate) const GRADE: &str = "\
@@ -177,7 +183,7 @@ start.asm in the folder of that exercise, which you edit. It is tried with all c
 schedule. If it is not right, a schedule shows why, with the commands to view that run. Each
 exercise has a task, task.md, and hints. --page FILE writes a page of that run, and --play FILE a page
 on which you choose each step, opened after that run. --reset makes start.asm what it was at first,
-and keeps yours as start.old.asm.
+and keeps yours as start.old.asm. --watch judges it again each time that you save it, until you type q.
 
 Examples:
   mta_lab exercise
@@ -203,11 +209,13 @@ Example:
 
 pub(crate) const WORD: &str = "\
 Says what an instruction word says: its text, its hexadecimal digits and its fields. Digits begin
-with 0x or are sixteen; all else is the text of an instruction.
+with 0x or are sixteen; all else is the text of an instruction. After ssw stand the digits of a status
+word, as mta_sim prints it.
 
 Examples:
   mta_lab word 0x28000
-  mta_lab word ADD r1, r1, 1";
+  mta_lab word ADD r1, r1, 1
+  mta_lab word ssw 0000000600000001";
 
 pub(crate) const NEW: &str = "\
 Writes NAME.asm, a program of two processors to begin with, and NAME.expect, which says what each
@@ -250,6 +258,17 @@ If a program has more states, let its loops repeat less often, or give a beginni
 Examples:
   mta_lab play lock.asm --out lock.html --expect lock.expect
   mta_lab play dinner.asm --out dinner.html --goal deadlock";
+
+pub(crate) const GALLERY: &str = "\
+Writes pages of all examples and exercises into a folder, and index.html, which leads to them: a
+card for each, with a picture, what it teaches, a page on which you are the scheduler, the run in
+which it goes wrong, and all ends. Of an exercise it shows one wrong program, and no solution.
+Levels in an order ask you to break each. The browser keeps which of them you have done. The pages
+need no network: put the folder on any web server, or open index.html.
+
+Examples:
+  mta_lab gallery pages
+  mta_lab gallery pages --examples . --exercises exercises";
 
 pub(crate) const PROGRAM: &str = "the program: a source text or an image";
 

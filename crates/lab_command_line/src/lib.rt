@@ -9,6 +9,7 @@ mod choices;
 mod commands;
 mod file_commands;
 mod foreign_words;
+mod gallery_command;
 mod help;
 mod many_runs_commands;
 mod options;

@@ -51,7 +51,7 @@ pub(crate) const SURVEY_ARGUMENTS: [Argument; 12] = [
 ];
 
 /// Of `explore`.
-pub(crate) const EXPLORE_ARGUMENTS: [Argument; 13] = [
+pub(crate) const EXPLORE_ARGUMENTS: [Argument; 14] = [
     PROGRAM,
     GIVEN,
     EXPECT,
@@ -72,6 +72,11 @@ pub(crate) const EXPLORE_ARGUMENTS: [Argument; 13] = [
         Form::Option("MB", ValueKind::Number(1, MOST_MEGABYTES), Presence::Free),
     ),
     Argument("plain", help::PLAIN, Form::Flag(&[])),
+    Argument(
+        "waiting",
+        "says who can wait forever, of all states",
+        Form::Flag(&[]),
+    ),
     Argument(
         "keep",
         "writes the schedule to each end into this folder",
@@ -247,6 +252,7 @@ pub(crate) fn explore_of<'a>(found: &ArgMatches<'a>) -> ExploreRequest<'a> {
         from: text(found, "from"),
         bounds: bounds_of(found),
         is_plain: found.get_flag("plain"),
+        asks_who_waits: found.get_flag("waiting"),
         keep: text(found, "keep"),
         pages: text(found, "pages"),
         dot: text(found, "dot"),

@@ -38,6 +38,9 @@ pub(crate) const USUAL_SEEDS: usize = 200;
 /// The folder of the exercises, where none is said.
 pub(crate) const EXERCISES: &str = "exercises";
 
+/// The folder of the examples, where none is said.
+pub(crate) const EXAMPLES: &str = "examples";
+
 /// The most hints that one may be asked for.
 pub(crate) const MOST_HINTS: u64 = 99;
 

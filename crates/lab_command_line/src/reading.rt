@@ -4,6 +4,7 @@ use crate::choices::{COLOUR_WORDS, COLOURS};
 use crate::commands::{CommandName, command_called};
 use crate::file_commands::{asm_of, check_of, exercise_of, explain_of, layout_of, new_of, word_of};
 use crate::foreign_words::refusal_of;
+use crate::gallery_command::gallery_of;
 use crate::help;
 use crate::many_runs_commands::{explore_of, grading_of, survey_of};
 use crate::options::chosen;
@@ -108,6 +109,7 @@ fn asked_of<'a>(
         CommandName::Page => Ok(LabCommand::Page(page_of(found))),
         CommandName::Picture => Ok(LabCommand::Picture(picture_of(found))),
         CommandName::Play => Ok(LabCommand::Play(play_of(found))),
+        CommandName::Gallery => Ok(LabCommand::Gallery(gallery_of(found))),
         CommandName::Asm => Ok(asm_of(found)),
         CommandName::Explain => explain_of(alloc, found),
         CommandName::Word => word_of(alloc, found),

@@ -187,6 +187,7 @@ pub(crate) fn misfit_of(command: CommandName, found: &ArgMatches) -> Option<&'st
         | CommandName::Grade
         | CommandName::Picture
         | CommandName::Play
+        | CommandName::Gallery
         | CommandName::Asm
         | CommandName::Explain
         | CommandName::Word

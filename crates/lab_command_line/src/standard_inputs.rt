@@ -1,6 +1,9 @@
 //! Standard input as a file that a command reads: it can be read once, and has no name.
 
-use lab_requests::{CheckRequest, GradeCases, GradeRequest, LabCommand, RunChoice};
+use lab_requests::{
+    CheckRequest, ExploreRequest, GradeCases, GradeRequest, LabCommand, PageRequest, PlayRequest,
+    RunChoice, SurveyRequest, ViewRequest,
+};
 
 /// The paths by which standard input is named.
 const STANDARD_INPUTS: [&str; 4] = ["-", "/dev/stdin", "/dev/fd/0", "/proc/self/fd/0"];
@@ -34,9 +37,7 @@ fn standard_inputs(command: &LabCommand) -> usize {
     match command {
         LabCommand::Check(request) => of_check(request),
         LabCommand::Schedule { program, .. } => count_of(&[Some(*program)]),
-        LabCommand::View(request) => {
-            count_of(&[Some(request.program), request.given, file_of(request.run)])
-        }
+        LabCommand::View(request) => of_view(request),
         LabCommand::Debug {
             program,
             given,
@@ -49,38 +50,62 @@ fn standard_inputs(command: &LabCommand) -> usize {
             other,
             ..
         } => count_of(&[Some(*program), *given, file_of(*one), file_of(*other)]),
-        LabCommand::Survey(request) => {
-            count_of(&[Some(request.program), request.given, request.expected])
-        }
-        LabCommand::Explore(request) => count_of(&[
-            Some(request.program),
-            request.given,
-            request.expected,
-            request.from,
-        ]),
+        LabCommand::Survey(request) => of_survey(request),
+        LabCommand::Explore(request) => of_explore(request),
         LabCommand::Grade(request) => of_grade(request),
         LabCommand::Merge(request) => count_in(&request.results),
-        LabCommand::Page(request) | LabCommand::Picture(request) => count_of(&[
-            Some(request.program),
-            request.given,
-            file_of(request.run),
-            request.other.and_then(file_of),
-        ]),
-        LabCommand::Play(request) => count_of(&[
-            Some(request.program),
-            request.given,
-            request.expected,
-            request.from,
-        ]),
+        LabCommand::Page(request) | LabCommand::Picture(request) => of_page(request),
+        LabCommand::Play(request) => of_play(request),
         LabCommand::LayOut(request) => count_in(&request.files),
         LabCommand::Assemble { source, .. } => count_of(&[Some(*source)]),
         LabCommand::Adapt
         | LabCommand::ServeLanguage
         | LabCommand::Exercise(_)
+        | LabCommand::Gallery(_)
         | LabCommand::Explain { .. }
         | LabCommand::Word { .. }
         | LabCommand::New { .. } => 0,
     }
+}
+
+/// The same of `view`.
+fn of_view(request: &ViewRequest) -> usize {
+    count_of(&[Some(request.program), request.given, file_of(request.run)])
+}
+
+/// The same of `survey`.
+fn of_survey(request: &SurveyRequest) -> usize {
+    count_of(&[Some(request.program), request.given, request.expected])
+}
+
+/// The same of `explore`.
+fn of_explore(request: &ExploreRequest) -> usize {
+    count_of(&[
+        Some(request.program),
+        request.given,
+        request.expected,
+        request.from,
+    ])
+}
+
+/// The same of `page` and `picture`.
+fn of_page(request: &PageRequest) -> usize {
+    count_of(&[
+        Some(request.program),
+        request.given,
+        file_of(request.run),
+        request.other.and_then(file_of),
+    ])
+}
+
+/// The same of `play`.
+fn of_play(request: &PlayRequest) -> usize {
+    count_of(&[
+        Some(request.program),
+        request.given,
+        request.expected,
+        request.from,
+    ])
 }
 
 /// The same of `check`.

@@ -4,7 +4,7 @@ use crate::debug_words::DebugWord;
 use lab_texts::TextWriter;
 
 /// Other names of the words.
-const ALIASES: [(&str, DebugWord); 30] = [
+const ALIASES: [(&str, DebugWord); 32] = [
     ("s", DebugWord::Step),
     ("si", DebugWord::Step),
     ("stepi", DebugWord::Step),
@@ -15,6 +15,8 @@ const ALIASES: [(&str, DebugWord); 30] = [
     ("reverse-step", DebugWord::Back),
     ("reverse-stepi", DebugWord::Back),
     ("rc", DebugWord::ReverseContinue),
+    ("rn", DebugWord::ReverseNext),
+    ("c", DebugWord::Continue),
     ("u", DebugWord::Until),
     ("advance", DebugWord::Until),
     ("tbreak", DebugWord::Until),
@@ -38,7 +40,7 @@ const ALIASES: [(&str, DebugWord); 30] = [
 ];
 
 /// Words of other debuggers that have no like here, and what may be meant.
-const MEANT: [(&str, &str); 20] = [
+const MEANT: [(&str, &str); 17] = [
     ("finish", "until or continue"),
     ("fin", "until or continue"),
     ("return", "until or continue"),
@@ -52,13 +54,10 @@ const MEANT: [(&str, &str); 20] = [
     ("enable", "break"),
     ("up", "list or back"),
     ("down", "list or step"),
-    ("rn", "back"),
-    ("reverse-next", "back"),
     ("reverse-finish", "reverse-continue"),
     ("registers", "info registers"),
     ("threads", "info streams"),
     ("points", "info points"),
-    ("goto", "step, back or until"),
 ];
 
 /// The word that has another name.

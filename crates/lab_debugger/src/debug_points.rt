@@ -19,7 +19,7 @@ impl<'a, 'i, 't, const S: usize> DebugRepl<'a, 'i, 't, S> {
                 added.push(key)?;
             }
         }
-        self.go(&Command::Continue, out)?;
+        self.go_to_stop(&Command::Continue, out)?;
         for key in added.iter() {
             let _ = self.named.session.command(&Command::Delete(*key));
         }
@@ -44,6 +44,9 @@ impl<'a, 'i, 't, const S: usize> DebugRepl<'a, 'i, 't, S> {
 
     /// A watched word.
     pub(crate) fn watch(&mut self, rest: &str, out: &mut TextWriter) -> Result<(), LabFault> {
+        if self.watch_register(rest, out)? {
+            return Ok(());
+        }
         let (name, what) = match rest.split_once(' ') {
             Some((name, what)) => (name, what.trim()),
             None => (rest, ""),
@@ -53,7 +56,7 @@ impl<'a, 'i, 't, const S: usize> DebugRepl<'a, 'i, 't, S> {
             (Some(address), "tags") => Command::WatchTags(address),
             (None, "" | "tags") if is_named_word(name) => return self.put_no_address(name, out),
             _ => {
-                out.put("watch takes a word, as [8], or [8] tags\n");
+                out.put("watch takes a word or a register, as [8], [8] tags or r2\n");
                 return Ok(());
             }
         };
@@ -69,6 +72,9 @@ impl<'a, 'i, 't, const S: usize> DebugRepl<'a, 'i, 't, S> {
 
     /// A point less.
     pub(crate) fn delete(&mut self, rest: &str, out: &mut TextWriter) -> Result<(), LabFault> {
+        if self.delete_stop(rest, out)? {
+            return Ok(());
+        }
         let Ok(key) = rest.parse::<u64>() else {
             out.put("delete takes the number of a point\n");
             return Ok(());
@@ -89,6 +95,7 @@ impl<'a, 'i, 't, const S: usize> DebugRepl<'a, 'i, 't, S> {
         for (key, point) in self.named.session.points(self.alloc)?.iter() {
             put_point(out, self.names, *key, *point);
         }
+        self.put_own_stops(out);
         Ok(())
     }
 

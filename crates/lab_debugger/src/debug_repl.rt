@@ -1,10 +1,13 @@
 //! A session of `debug`, and what its lines ask for.
 
+use crate::debug_stops::OwnStops;
 use crate::debug_tries::Dropped;
 use crate::debug_words::{DebugWord, debug_word, put_help, put_no_word};
 use command_parts::LabFault;
 use debug_commands::{Answer, Command, DebugFault, Why};
-use lab_texts::{Columns, Notation, NumberStyle, ProgramNames, TextWriter, put_step_line};
+use lab_texts::{
+    Columns, Notation, NumberStyle, ProgramNames, RunPieces, TextWriter, put_step_line,
+};
 use named_session::{LastStep, NamedSession, UserName, fault_words, read_name};
 use processor::Step;
 use std::alloc::Global;
@@ -18,6 +21,8 @@ pub(crate) struct DebugRepl<'a, 'i, 't, const S: usize> {
     pub columns: Columns,
     /// What each try dropped that was not taken back, the last one last.
     pub tried: Vec<Dropped>,
+    /// At what it stops beside the points of the session.
+    pub stops: OwnStops,
 }
 
 /// What is said where no step comes.
@@ -73,11 +78,17 @@ impl<'a, 'i, 't, const S: usize> DebugRepl<'a, 'i, 't, S> {
             DebugWord::Step => self.step(rest, out),
             DebugWord::Next => self.next(out),
             DebugWord::Back => self.back(rest, out),
-            DebugWord::Continue => self.go(&Command::Continue, out),
-            DebugWord::ReverseContinue => self.go(&Command::Back, out),
+            DebugWord::Continue => self.go_to_stop(&Command::Continue, out),
+            DebugWord::ReverseContinue => self.go_to_stop(&Command::Back, out),
+            DebugWord::ReverseNext => self.reverse_next(out),
+            DebugWord::Goto => self.go_to_position(rest, out),
             DebugWord::Until => self.until(rest, out),
             DebugWord::Break => self.break_at(rest, out),
             DebugWord::Watch => self.watch(rest, out),
+            DebugWord::Catch => {
+                self.catch_traps(rest, out);
+                Ok(())
+            }
             DebugWord::Delete => self.delete(rest, out),
             DebugWord::Info => self.info(rest, out),
             DebugWord::Print => self.print(rest, out),
@@ -154,8 +165,34 @@ impl<'a, 'i, 't, const S: usize> DebugRepl<'a, 'i, 't, S> {
     /// From the start on to the first stop.
     fn run(&mut self, out: &mut TextWriter) -> Result<(), LabFault> {
         match self.named.go_to(0) {
-            Ok(_) => self.go(&Command::Continue, out),
+            Ok(_) => self.go_to_stop(&Command::Continue, out),
             Err(fault) => refuse(fault, out),
+        }
+    }
+
+    /// Back to where the stream of the next step took its last one.
+    fn reverse_next(&mut self, out: &mut TextWriter) -> Result<(), LabFault> {
+        let stream = self.stream_here();
+        let position = self.named.session.position() as usize;
+        let before = self.named.session.schedule().get(..position).unwrap_or(&[]);
+        match before.iter().rposition(|step: &Step| *step == stream) {
+            Some(place) => self.go(&Command::Go(place as u64), out),
+            None => {
+                out.put_stream(stream.p, stream.s);
+                out.put(" has taken no step before\n");
+                Ok(())
+            }
+        }
+    }
+
+    /// To a position.
+    fn go_to_position(&mut self, rest: &str, out: &mut TextWriter) -> Result<(), LabFault> {
+        match rest.parse::<u64>() {
+            Ok(position) => self.go(&Command::Go(position), out),
+            Err(_) => {
+                out.put("goto takes after how many steps, as 5\n");
+                Ok(())
+            }
         }
     }
 
@@ -176,19 +213,22 @@ impl<'a, 'i, 't, const S: usize> DebugRepl<'a, 'i, 't, S> {
         out: &mut TextWriter,
     ) -> Result<(), LabFault> {
         match self.named.session.command(command) {
-            Ok(Answer::At(_, why)) => {
-                self.put_last_step(out)?;
-                self.put_why_here(why, out)?;
-                self.put_where(out);
-                Ok(())
-            }
+            Ok(Answer::At(_, why)) => self.put_move(why, out),
             Ok(_) => Ok(()),
             Err(fault) => refuse(fault, out),
         }
     }
 
+    /// Adds which step led to the session's position, why it came there, and what comes next.
+    pub(crate) fn put_move(&mut self, why: Why, out: &mut TextWriter) -> Result<(), LabFault> {
+        self.put_last_step(out)?;
+        self.put_why_here(why, out)?;
+        self.put_where(out);
+        Ok(())
+    }
+
     /// Adds the line of the step that led to the session's position, where there is one: it is taken once more.
-    fn put_last_step(&mut self, out: &mut TextWriter) -> Result<(), LabFault> {
+    pub(crate) fn put_last_step(&mut self, out: &mut TextWriter) -> Result<(), LabFault> {
         let last = match self.named.last_view(self.alloc) {
             Ok(last) => last,
             Err(_) => return Err(LabFault::NoMemory),

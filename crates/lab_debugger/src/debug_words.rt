@@ -16,12 +16,18 @@ pub(crate) enum DebugWord {
     Continue,
     /// Back to the last stop.
     ReverseContinue,
+    /// Back to where the stream that is looked at took its last step.
+    ReverseNext,
+    /// To a position.
+    Goto,
     /// On to a label or a line.
     Until,
     /// A breakpoint.
     Break,
-    /// A watched word.
+    /// A watched word or register.
     Watch,
+    /// A stop at each trap.
+    Catch,
     /// A point less.
     Delete,
     /// Streams, points, or who waits.
@@ -51,15 +57,18 @@ pub(crate) enum DebugWord {
 }
 
 /// The words, in the order in which `help` tells them.
-const WORDS: [DebugWord; 21] = [
+const WORDS: [DebugWord; 24] = [
     DebugWord::Step,
     DebugWord::Next,
     DebugWord::Back,
     DebugWord::Continue,
     DebugWord::ReverseContinue,
+    DebugWord::ReverseNext,
+    DebugWord::Goto,
     DebugWord::Until,
     DebugWord::Break,
     DebugWord::Watch,
+    DebugWord::Catch,
     DebugWord::Delete,
     DebugWord::Info,
     DebugWord::Print,
@@ -82,10 +91,14 @@ next                on until the stream of the next step has stepped
 back [N]            a step back, or N of them
 continue            on to the next stop, or to the end
 reverse-continue    back to the last stop, or to the start
+reverse-next        back to where the stream of the next step took its last one
+goto N              to where N steps of the schedule are taken
 until ADDRESS       on until a stream is to step at a label, a label and a number of words, as eat+1, or a line
 break [P] ADDRESS   a stop when a stream, or one of processor P, is to step at such an address
 watch [A]           a stop when the word at this byte address has changed; watch [A] tags: its full/empty bit or other tags
-delete N            takes the point of this number away
+watch r2            a stop when this register of the stream that comes next has changed; watch 2.0.r2: that of another
+catch               a stop when a stream traps
+delete N            takes the point of this number away; delete 2.0.r2, delete trap: such a stop
 info WHAT           streams: who runs and where; points: the stops; waiting: who waits; registers [P.S]: a stream's
 print WHAT          r1 of the stream that comes next, 2.0.r1 of another, [A] a word, 2.0 a stream with all registers
 list [P.S]          the program around a stream
@@ -109,9 +122,12 @@ impl DebugWord {
             DebugWord::Back => "back",
             DebugWord::Continue => "continue",
             DebugWord::ReverseContinue => "reverse-continue",
+            DebugWord::ReverseNext => "reverse-next",
+            DebugWord::Goto => "goto",
             DebugWord::Until => "until",
             DebugWord::Break => "break",
             DebugWord::Watch => "watch",
+            DebugWord::Catch => "catch",
             DebugWord::Delete => "delete",
             DebugWord::Info => "info",
             DebugWord::Print => "print",

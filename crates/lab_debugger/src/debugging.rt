@@ -2,12 +2,14 @@
 
 use crate::debug_lines::{InputLines, LINE_LIMIT, NextLine};
 use crate::debug_repl::{AfterLine, DebugRepl};
+use crate::debug_stops::OwnStops;
 use crate::sessions::named_of;
 use asked_programs::read_asked_program;
-use command_parts::{Inputs, LabFault, Program, Status, steps_of, write_out};
+use command_parts::{Inputs, LabFault, Program, Status, steps_of};
 use image_machines::by_room;
 use lab_requests::RunChoice;
 use lab_texts::{Columns, ProgramNames, TextWriter, plural};
+use printed_lines::write_lines;
 use processor::Step;
 use std::alloc::Global;
 use std::io::{Read, Write};
@@ -16,6 +18,10 @@ use trace_text::write_schedule;
 
 /// What a person is prompted with.
 const PROMPT: &str = "(mta) ";
+
+/// What a person is greeted with.
+const GREETING: &str =
+    "help lists the words; rlwrap mta_lab debug .. has arrow keys and a history\n";
 
 /// Where the answers go.
 #[derive(Drop)]
@@ -26,6 +32,8 @@ pub struct Screen<'a, W, E> {
     pub errors: &'a mut E,
     /// Whether there is a prompt.
     pub is_prompted: bool,
+    /// Whether the answers have colours.
+    pub is_coloured: bool,
 }
 
 /// Answers the lines of standard input over a run of a program, each before the next is read. With the file of a case's words
@@ -62,6 +70,7 @@ fn debug_on<F: Files, R: Read, W: Write, E: Write, const S: usize>(
         names: &names,
         columns,
         tried: Vec::new(alloc),
+        stops: OwnStops::none(alloc),
     };
     talk(alloc, inputs, &mut repl, screen)?;
     Ok(Status::Done)
@@ -80,6 +89,7 @@ fn talk<const S: usize, F: Files, R: Read, W: Write, E: Write>(
     let mut text = TextWriter::take(&mut out);
     repl.put_where(&mut text);
     text.give_back(&mut out)?;
+    screen.prompt_with(GREETING);
     for _ in 0..u64::MAX {
         screen.show(&out)?;
         out.clear();
@@ -87,7 +97,10 @@ fn talk<const S: usize, F: Files, R: Read, W: Write, E: Write>(
             Heard::Line => answer_line(alloc, inputs, repl, line.as_str(), &mut out)?,
             Heard::TooLong => push_too_long(&mut out)?,
             Heard::NotText(number) => push_not_text(&mut out, number)?,
-            Heard::End => false,
+            Heard::End => {
+                screen.prompt_with("\n");
+                false
+            }
         };
         if !goes_on {
             break;
@@ -203,10 +216,15 @@ fn put_saved(out: &mut TextWriter, path: &str, steps: usize) {
 impl<W: Write, E: Write> Screen<'_, W, E> {
     /// Writes an answer, and a prompt where a person types, before the next line is read.
     fn show(&mut self, text: &String) -> Result<(), LabFault> {
-        let wrote = write_out(self.output, text.as_bytes());
-        if self.is_prompted {
-            let _ = write!(self.errors, "{PROMPT}").and_then(|()| self.errors.flush());
-        }
+        let wrote = write_lines(self.output, text, self.is_coloured);
+        self.prompt_with(PROMPT);
         wrote
+    }
+
+    /// Writes a text where a person types.
+    fn prompt_with(&mut self, text: &str) {
+        if self.is_prompted {
+            let _ = write!(self.errors, "{text}").and_then(|()| self.errors.flush());
+        }
     }
 }

@@ -8,6 +8,7 @@ mod debug_points;
 mod debug_registers;
 mod debug_repl;
 mod debug_shows;
+mod debug_stops;
 mod debug_tries;
 mod debug_words;
 mod debugging;

@@ -37,26 +37,39 @@ pub fn exercise<X: Threads + Sync + Clock, F: Files, R: Read, E: Write>(
     console: &mut Console<'_, X, E>,
 ) -> Result<CommandAnswer, LabFault> {
     let exercises = read_exercises(alloc, inputs, request.folder)?;
-    let Some(word) = request.which else {
+    if request.which.is_none() {
         return list(rt, alloc, inputs, request, &exercises, console);
-    };
-    let place = exercises
-        .iter()
-        .position(|one: &Exercise| one.is_called(word))
-        .unwrap_or(exercises.len());
+    }
+    let place = place_of(alloc, &exercises, request)?;
     let Some(found) = exercises.get(place) else {
-        return Err(unknown(alloc, request.folder, word)?);
+        return Err(LabFault::Closed);
     };
     let asked = AskedExercise {
         exercise: found,
         next: exercises.get(place.saturating_add(1)),
+        all: &exercises,
     };
     match request.task {
         ExerciseTask::Hint(hint) => show_hint(alloc, inputs, request, found, hint),
         ExerciseTask::Reset => reset(alloc, inputs, found),
-        ExerciseTask::Judge | ExerciseTask::Page(_) | ExerciseTask::Play(_) => {
-            tell(rt, alloc, inputs, request, asked, console)
-        }
+        ExerciseTask::Judge | ExerciseTask::Page(_) | ExerciseTask::Play(_) | ExerciseTask::Watch =>
+            tell(rt, alloc, inputs, request, asked, console),
+    }
+}
+
+/// The place of the exercise that is asked for; why not, if there is none.
+pub(crate) fn place_of(
+    alloc: Global,
+    exercises: &[Exercise],
+    request: &ExerciseRequest,
+) -> Result<usize, LabFault> {
+    let word = request.which.unwrap_or("");
+    match exercises
+        .iter()
+        .position(|one: &Exercise| one.is_called(word))
+    {
+        Some(place) => Ok(place),
+        None => Err(unknown(alloc, request.folder, word)?),
     }
 }
 
@@ -110,15 +123,39 @@ fn state_of<X: Threads + Sync + Clock, F: Files, R: Read, E: Write>(
     Ok(ProgramState::Judged(judge(rt, alloc, inputs, exercise, QUICK, console)?))
 }
 
-/// An exercise that is asked for, and the one that comes after it.
+/// Adds how many exercises are done, and a closing word if all are.
+pub(crate) fn push_progress<X: Threads + Sync + Clock, F: Files, R: Read, E: Write>(
+    rt: &X,
+    alloc: Global,
+    inputs: &mut Inputs<'_, F, R>,
+    exercises: &[Exercise],
+    console: &mut Console<'_, X, E>,
+    out: &mut String,
+) -> Result<(), LabFault> {
+    let mut done: usize = 0;
+    for exercise in exercises.iter() {
+        if state_of(rt, alloc, inputs, exercise, console)?.is_done() {
+            done = done.saturating_add(1);
+        }
+    }
+    let count = exercises.len();
+    write!(out, "{done} of {count} are done.\n")?;
+    if done == count {
+        out.push_str(ALL_DONE)?;
+    }
+    Ok(())
+}
+
+/// An exercise that is asked for, the one that comes after it, and all.
 #[derive(Clone, Copy)]
-struct AskedExercise<'e> {
-    exercise: &'e Exercise,
-    next: Option<&'e Exercise>,
+pub(crate) struct AskedExercise<'e> {
+    pub exercise: &'e Exercise,
+    pub next: Option<&'e Exercise>,
+    pub all: &'e [Exercise],
 }
 
 /// What is said of the program of an exercise.
-fn tell<X: Threads + Sync + Clock, F: Files, R: Read, E: Write>(
+pub(crate) fn tell<X: Threads + Sync + Clock, F: Files, R: Read, E: Write>(
     rt: &X,
     alloc: Global,
     inputs: &mut Inputs<'_, F, R>,
@@ -126,12 +163,19 @@ fn tell<X: Threads + Sync + Clock, F: Files, R: Read, E: Write>(
     asked: AskedExercise<'_>,
     console: &mut Console<'_, X, E>,
 ) -> Result<CommandAnswer, LabFault> {
-    let AskedExercise { exercise, next } = asked;
+    let AskedExercise {
+        exercise,
+        next,
+        all,
+    } = asked;
     let judgement = judge(rt, alloc, inputs, exercise, THOROUGH, console)?;
     let mut out = String::new(alloc);
     if judgement.is_right() {
         push_judgement(alloc, &mut out, request, exercise, &judgement, None)?;
         push_next(alloc, &mut out, request, next)?;
+        if next.is_none() {
+            push_progress(rt, alloc, inputs, all, console, &mut out)?;
+        }
     } else {
         show_warnings(alloc, inputs, exercise, console)?;
         let path = exercise.file(alloc, "advice")?;
@@ -193,7 +237,7 @@ fn written_page<F: Files, R: Read>(
 }
 
 /// A hint of an exercise, by its number from 1.
-fn show_hint<F: Files, R: Read>(
+pub(crate) fn show_hint<F: Files, R: Read>(
     alloc: Global,
     inputs: &mut Inputs<'_, F, R>,
     request: &ExerciseRequest,

@@ -48,7 +48,7 @@ pub(crate) fn asked_page<'a, C: Clock, E: Write>(
     let (path, is_of_all) = match task {
         ExerciseTask::Page(path) => (path, false),
         ExerciseTask::Play(path) => (path, true),
-        ExerciseTask::Judge | ExerciseTask::Hint(_) | ExerciseTask::Reset => {
+        ExerciseTask::Judge | ExerciseTask::Hint(_) | ExerciseTask::Reset | ExerciseTask::Watch => {
             return Ok(AskedPage::NotAsked);
         }
     };
@@ -138,7 +138,7 @@ fn name_of(alloc: Global, exercise: &Exercise, row: &GradeRow) -> Result<String,
 }
 
 /// How a page says that the run is not right: by the line that it misses, if one says it.
-fn verdict_of<'r>(decided: &DecidedByCase, row: &'r GradeRow) -> RunVerdict<'r> {
+pub(crate) fn verdict_of<'r>(decided: &DecidedByCase, row: &'r GradeRow) -> RunVerdict<'r> {
     let missed = match row.cases.get(decided.judgement.worst) {
         Some(case) => case.missed.as_ref(),
         None => None,

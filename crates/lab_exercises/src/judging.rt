@@ -70,8 +70,21 @@ pub(crate) fn judge<X: Threads + Sync + Clock, F: Files, R: Read, E: Write>(
     reach: SearchLimits,
     console: &mut Console<'_, X, E>,
 ) -> Result<Judgement, LabFault> {
-    let cases = exercise.file(alloc, "cases")?;
     let start = exercise.file(alloc, "start.asm")?;
+    judge_file(rt, alloc, inputs, exercise, &start, reach, console)
+}
+
+/// The same of the program of a file, by the cases of an exercise.
+pub(crate) fn judge_file<X: Threads + Sync + Clock, F: Files, R: Read, E: Write>(
+    rt: &X,
+    alloc: Global,
+    inputs: &mut Inputs<'_, F, R>,
+    exercise: &Exercise,
+    path: &str,
+    reach: SearchLimits,
+    console: &mut Console<'_, X, E>,
+) -> Result<Judgement, LabFault> {
+    let cases = exercise.file(alloc, "cases")?;
     let request = GradeRequest {
         cases: GradeCases::Folder(cases.as_str()),
         seeds: reach.seeds,
@@ -98,7 +111,7 @@ pub(crate) fn judge<X: Threads + Sync + Clock, F: Files, R: Read, E: Write>(
         undecided: Undecided::Unscored,
         hexadecimal: false,
     };
-    let judged = judged_alone(rt, alloc, inputs, &request, &start, console)?;
+    let judged = judged_alone(rt, alloc, inputs, &request, path, console)?;
     let why = reason_of(alloc, &judged.row, judged.cases)?;
     Ok(Judgement {
         row: judged.row,

@@ -2,6 +2,7 @@
 
 use crate::folders::Exercise;
 use crate::judging::Judgement;
+use crate::missed_words::verdict_words;
 use exercise_advice::judges::Witness;
 use lab_requests::ExerciseRequest;
 use plain_text::{plain, push_plain};
@@ -24,10 +25,11 @@ pub(crate) fn push_judgement(
 ) -> Result<(), AllocError> {
     let path = plain(alloc, &exercise.path)?;
     let (number, title) = (exercise.number, exercise.title.as_str());
-    let (verdict, why) = (judgement.row.kind.word(), judgement.why.as_str());
+    let verdict = judgement.row.kind.word();
+    let words = verdict_words(alloc, judgement)?;
     write!(
         out,
-        "exercise {number}, {title}: {verdict}\n{path}/start.asm: {why}\n"
+        "exercise {number}, {title}: {verdict}\n{path}/start.asm: {words}\n"
     )?;
     if let Some(sentence) = sentence {
         push_plain(out, sentence)?;

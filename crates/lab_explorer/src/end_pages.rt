@@ -2,6 +2,7 @@
 
 use crate::written_files::WrittenFiles;
 use command_parts::{Inputs, LabFault, Program};
+use endless_waits::EndlessWaits;
 use expectation_files::{NEVER_BUSY, Requirements, WrittenLine};
 use plain_text::stem_of;
 use replay_page::{MOST_STEPS, RunNames, RunVerdict, page_of_run};
@@ -24,6 +25,8 @@ pub(crate) struct FoundProgram<'a> {
     pub required: &'a Requirements,
     /// What the search among its schedules came to.
     pub found: &'a Explored<'a>,
+    /// Who can wait forever; None if that was not asked.
+    pub waits: Option<&'a EndlessWaits>,
 }
 
 impl FoundProgram<'_> {

@@ -1,10 +1,11 @@
 //! What is said of a search: its head and its ends, in words or as objects.
 
+use crate::end_pages::FoundProgram;
+use crate::endless::WaitingProgram;
 use crate::explored_objects::push_objects;
 use command_parts::CommandAnswer;
 use end_kinds::{EndKind, Status};
 use expectation_files::Requirements;
-use image_file::Image;
 use lab_texts::Notation;
 use plain_text::{plural, push_plain};
 use schedule_turns::turns_of;
@@ -20,15 +21,19 @@ use std::alloc::{AllocError, Global};
 /// The most turns of a schedule that are shown with a claim that it breaks.
 const MOST_TURNS: usize = 40;
 
-/// What is said of a search among the schedules of an image, of which this is required.
+/// What is said of a search among the schedules of a program, and of who can wait forever, if that was asked.
 pub(crate) fn answer_of(
     alloc: Global,
     is_json: bool,
-    image: &Image,
-    required: &Requirements,
     notation: Notation<'_, '_>,
-    found: &Explored<'_>,
+    shown: FoundProgram<'_>,
 ) -> Result<CommandAnswer, AllocError> {
+    let FoundProgram {
+        required,
+        found,
+        ..
+    } = shown;
+    let image = &shown.program.image;
     let mut output = String::new(alloc);
     if is_json {
         push_objects(alloc, &mut output, image, ExpectedLines { required }, found)?;
@@ -38,7 +43,17 @@ pub(crate) fn answer_of(
         let words = words_of_ends(alloc, notation, required, image, &found.ends)?;
         push_lines(alloc, &mut output, required, found, &words)?;
     }
-    let status = found.status().worse(work_status(required));
+    let mut status = found.status().worse(work_status(required));
+    if let Some(waits) = shown.waits {
+        status = status.worse(waits.status());
+        let waiting = WaitingProgram {
+            names: notation.names,
+            image,
+            begin: found.begin(),
+            waits,
+        };
+        waiting.push(alloc, &mut output, is_json)?;
+    }
     Ok(CommandAnswer::printed(alloc, output, status))
 }
 

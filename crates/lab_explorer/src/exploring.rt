@@ -7,6 +7,7 @@ use crate::graphs::{GraphedSearch, write_graph};
 use crate::written_files::WrittenFiles;
 use asked_programs::{WarnedProgram, read_warned_program};
 use command_parts::{CommandAnswer, Inputs, LabFault, Program, read_steps, style_of};
+use endless_waits::{EndlessWaits, endless_waits};
 use expectation_files::Requirements;
 use expectation_messages::requirements_of;
 use lab_requests::ExploreRequest;
@@ -68,27 +69,26 @@ fn show_ends<C: Clock, F: Files, R: Read, E: Write>(
 ) -> Result<CommandAnswer, LabFault> {
     let made = make_folders(alloc, inputs, request);
     let found = every_end(alloc, request, read, console)?;
-    let image = &read.program.image;
-    let required = read.required;
+    let waits = waits_asked(alloc, request, &found)?;
     let notation = Notation {
         names: read.names,
         style: style_of(request.shown),
     };
-    let is_json = request.shown.json;
-    let mut answer = answer_of(alloc, is_json, image, required, notation, &found)?;
     let shown = FoundProgram {
         path: request.program,
         program: read.program,
-        required,
+        required: read.required,
         found: &found,
+        waits: waits.as_ref(),
     };
+    let mut answer = answer_of(alloc, request.shown.json, notation, shown)?;
     let mut written = WrittenFiles::new(alloc);
     let kept = write_folders(alloc, inputs, request, made, shown, &mut written);
     let graphed = GraphedSearch {
         found: &found,
-        required,
+        required: read.required,
         notation,
-        image,
+        image: &read.program.image,
     };
     let drawn = write_graph(alloc, inputs, request.dot, graphed);
     let WrittenFiles { notes, fault } = written;
@@ -108,12 +108,24 @@ fn every_end<'a, C: Clock, E: Write>(
         required: read.required,
         begin: read.begin,
         bounds: request.bounds,
-        is_plain: request.is_plain,
+        is_plain: request.is_plain || request.asks_who_waits,
     };
     match explore_program(alloc, &read.program.image, &asked, console) {
         Ok(found) => Ok(found),
         Err(fault) => Err(search_fault(alloc, fault)?),
     }
+}
+
+/// Who can wait forever, if it is asked.
+fn waits_asked(
+    alloc: Global,
+    request: &ExploreRequest,
+    found: &Explored<'_>,
+) -> Result<Option<EndlessWaits>, LabFault> {
+    if !request.asks_who_waits {
+        return Ok(None);
+    }
+    Ok(Some(endless_waits(alloc, found)?))
 }
 
 /// The steps that all schedules are to begin with.

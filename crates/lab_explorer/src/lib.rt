@@ -3,10 +3,14 @@
 
 mod end_folders;
 mod end_pages;
+mod endless;
 mod explored_objects;
 mod explored_text;
 mod exploring;
 mod graphs;
+mod waiting_files;
+mod waiting_objects;
+mod waiting_text;
 mod written_files;
 
 pub use exploring::show_every_end;

@@ -41,6 +41,8 @@ pub enum ExerciseTask<'a> {
     Play(&'a str),
     /// Its program becomes what it was before the first edit.
     Reset,
+    /// Its program is judged again each time that its file changes.
+    Watch,
 }
 
 /// What `exercise` is asked.
@@ -52,6 +54,17 @@ pub struct ExerciseRequest<'a> {
     pub which: Option<&'a str>,
     /// What is done with it.
     pub task: ExerciseTask<'a>,
+}
+
+/// What `gallery` is asked.
+#[derive(Clone, Copy, Debug)]
+pub struct GalleryRequest<'a> {
+    /// The folder that it is written into.
+    pub folder: &'a str,
+    /// The folder of the exercises.
+    pub exercises: &'a str,
+    /// The folder of the examples.
+    pub examples: &'a str,
 }
 
 /// What `fmt` is asked.

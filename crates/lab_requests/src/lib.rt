@@ -5,7 +5,7 @@ mod file_requests;
 mod requests;
 
 pub use file_requests::{
-    CheckRequest, ExerciseRequest, ExerciseTask, FileKind, Idiom, LayoutRequest,
+    CheckRequest, ExerciseRequest, ExerciseTask, FileKind, GalleryRequest, Idiom, LayoutRequest,
 };
 pub use requests::{
     Bounds, Colours, ExploreRequest, GradeCases, GradeFormat, GradeRequest, LabCall, LabCommand,

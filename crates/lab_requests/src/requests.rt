@@ -1,6 +1,6 @@
 //! What a command line of `mta_lab` asks for.
 
-use crate::file_requests::{CheckRequest, ExerciseRequest, Idiom, LayoutRequest};
+use crate::file_requests::{CheckRequest, ExerciseRequest, GalleryRequest, Idiom, LayoutRequest};
 
 /// A rule that makes schedules.
 #[derive(Clone, Copy, Debug, PartialEq, Eq)]
@@ -150,6 +150,8 @@ pub struct ExploreRequest<'a> {
     pub bounds: Bounds,
     /// Whether all worlds are looked for, also where the ends need fewer.
     pub is_plain: bool,
+    /// Whether it is asked who can wait forever, among all worlds.
+    pub asks_who_waits: bool,
     /// The folder for the shortest schedules.
     pub keep: Option<&'a str>,
     /// The folder for the pages of their runs.
@@ -323,6 +325,8 @@ pub enum LabCommand<'a> {
     Picture(PageRequest<'a>),
     /// Writes a page on which the reader is the scheduler.
     Play(PlayRequest<'a>),
+    /// Writes pages of examples and exercises, and a page with a card of each.
+    Gallery(GalleryRequest<'a>),
     /// Says what a word means, or a name of several words; without one, which words have a page.
     Explain {
         words: Vec<&'a str>,

@@ -75,46 +75,47 @@ fn survey_of<X: Threads + Sync, C: Clock, E: Write>(
     let mut outcomes = outcomes_of(rt, alloc, image, surveyed.required, seeds)?;
     outcomes.sort_by_key(|outcome: &SeedOutcome| usize::MAX - outcome.runs)?;
     let is_json = request.shown.json;
+    let mut output = outcomes_text(rt, alloc, request, surveyed, names, &outcomes)?;
+    let found = match request.explored {
+        Some(bounds) => Some(every_end(alloc, surveyed, bounds, console)?),
+        None => None,
+    };
+    let (unkept, looked_at) = match &found {
+        Some(found) => (found.unkept(), LookedAt::EverySchedule),
+        None => (unkept_by_seeds(alloc, surveyed, seeds)?, LookedAt::SomeRuns),
+    };
+    push_whole(alloc, &mut output, is_json, surveyed, unkept, looked_at)?;
+    let work = push_missed_work(alloc, &mut output, is_json, surveyed, seeds)?;
+    let mut whole = unkept.status(false);
+    if let Some(found) = &found {
+        push_every_schedule(alloc, &mut output, is_json, surveyed, found, &outcomes)?;
+        whole = found.status();
+    }
+    let status = worst_status(&outcomes).worse(whole).worse(work);
+    Ok(CommandAnswer::printed(alloc, output, status))
+}
+
+/// What is printed of the outcomes: objects, or lines.
+fn outcomes_text<X: Threads + Sync>(
+    rt: &X,
+    alloc: Global,
+    request: &SurveyRequest,
+    surveyed: SurveyInput,
+    names: &ProgramNames<'_>,
+    outcomes: &[SeedOutcome],
+) -> Result<String, LabFault> {
     let mut output = String::new(alloc);
-    if is_json {
-        push_outcome_objects(rt, alloc, &mut output, surveyed, &outcomes)?;
+    if request.shown.json {
+        push_outcome_objects(rt, alloc, &mut output, surveyed, outcomes)?;
     } else {
         let notation = Notation {
             names,
             style: style_of(request.shown),
         };
-        let words = words_of_outcomes(rt, alloc, surveyed, notation, &outcomes)?;
-        push_outcomes(alloc, &mut output, surveyed.required, &outcomes, &words)?;
+        let words = words_of_outcomes(rt, alloc, surveyed, notation, outcomes)?;
+        push_outcomes(alloc, &mut output, surveyed.required, outcomes, &words)?;
     }
-    let status = worst_status(&outcomes);
-    let Some(bounds) = request.explored else {
-        let unkept = unkept_by_seeds(alloc, surveyed, seeds)?;
-        push_whole(
-            alloc,
-            &mut output,
-            is_json,
-            surveyed,
-            unkept,
-            LookedAt::SomeRuns,
-        )?;
-        let work = push_missed_work(alloc, &mut output, is_json, surveyed, seeds)?;
-        let status = status.worse(unkept.status(false)).worse(work);
-        return Ok(CommandAnswer::printed(alloc, output, status));
-    };
-    let found = every_end(alloc, surveyed, bounds, console)?;
-    let unkept = found.unkept();
-    push_whole(
-        alloc,
-        &mut output,
-        is_json,
-        surveyed,
-        unkept,
-        LookedAt::EverySchedule,
-    )?;
-    let work = push_missed_work(alloc, &mut output, is_json, surveyed, seeds)?;
-    push_every_schedule(alloc, &mut output, is_json, surveyed, &found, &outcomes)?;
-    let status = status.worse(found.status()).worse(work);
-    Ok(CommandAnswer::printed(alloc, output, status))
+    Ok(output)
 }
 
 /// What of the program as a whole is not so, by the runs of seeds.

@@ -6,6 +6,7 @@ mod explaining;
 mod instruction_words;
 mod page_lines;
 mod pages;
+mod status_words;
 mod trap_values;
 mod word_fields;
 

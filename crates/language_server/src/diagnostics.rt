@@ -84,39 +84,12 @@ pub(crate) fn put_message(
     message: &Message,
     related: Option<&Related>,
 ) -> Result<(), AllocError> {
-    let empty = DocumentLine {
-        number: message.line.saturating_sub(1),
-        start: 0,
-        bytes: &[],
-        mark: 0,
-    };
-    let line = document.line(empty.number).unwrap_or(empty);
-    let start = message.column.saturating_sub(1);
     json.open();
-    put_range(
-        json,
-        "range",
-        line,
-        start,
-        start.saturating_add(message.width),
-    );
+    put_place(json, document, message);
     json.number_of("severity", severity_number(message.severity));
-    if let Some(number) = message.number {
-        let letter = match message.severity {
-            Severity::Error => "E",
-            Severity::Warning => "",
-        };
-        json.text_of("code", format!(in alloc; "{letter}{number}")?.as_str());
-    }
+    put_code(alloc, json, message)?;
     json.text_of("source", "mta_lab");
-    match &message.help {
-        Some(help) => {
-            let words = message.words.as_str();
-            let help = help.as_str();
-            json.text_of("message", format!(in alloc; "{words}\n{help}")?.as_str());
-        }
-        None => json.text_of("message", message.words.as_str()),
-    }
+    put_words(alloc, json, message)?;
     if message.number == Some(UNREACHED) && message.severity == Severity::Warning {
         json.open_list("tags");
         json.number(1);
@@ -126,6 +99,45 @@ pub(crate) fn put_message(
         put_related(json, document, place);
     }
     json.close();
+    Ok(())
+}
+
+/// Writes the part of a line that a message is about.
+fn put_place(json: &mut Json, document: &Document, message: &Message) {
+    let empty = DocumentLine {
+        number: message.line.saturating_sub(1),
+        start: 0,
+        bytes: &[],
+        mark: 0,
+    };
+    let line = document.line(empty.number).unwrap_or(empty);
+    let start = message.column.saturating_sub(1);
+    let end = start.saturating_add(message.width);
+    put_range(json, "range", line, start, end);
+}
+
+/// Writes the number of a message, with an E before that of an error, if it has one.
+fn put_code(alloc: Global, json: &mut Json, message: &Message) -> Result<(), AllocError> {
+    if let Some(number) = message.number {
+        let letter = match message.severity {
+            Severity::Error => "E",
+            Severity::Warning => "",
+        };
+        json.text_of("code", format!(in alloc; "{letter}{number}")?.as_str());
+    }
+    Ok(())
+}
+
+/// Writes the words of a message, and its help on a line of its own.
+fn put_words(alloc: Global, json: &mut Json, message: &Message) -> Result<(), AllocError> {
+    match &message.help {
+        Some(help) => {
+            let words = message.words.as_str();
+            let help = help.as_str();
+            json.text_of("message", format!(in alloc; "{words}\n{help}")?.as_str());
+        }
+        None => json.text_of("message", message.words.as_str()),
+    }
     Ok(())
 }
 

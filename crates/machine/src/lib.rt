@@ -7,3 +7,4 @@ mod machines;
 
 pub use load_fault::LoadFault;
 pub use machines::Machine;
+pub use processor as processors;

@@ -6,12 +6,12 @@ use lab_adapter::adapt;
 use lab_checks::{assemble_file, check, explain, lay_out, make_schedule, show_word, start_program};
 use lab_command_line::read_lab_command;
 use lab_debugger::{Screen, debug};
-use lab_exercises::exercise;
+use lab_exercises::{exercise, watch_exercise, write_gallery};
 use lab_explorer::show_every_end;
 use lab_grades::{grade, merge};
 use lab_language::serve_language;
 use lab_pages::{write_page, write_picture, write_play_page};
-use lab_requests::{Colours, LabCommand};
+use lab_requests::{Colours, ExerciseRequest, ExerciseTask, LabCommand};
 use lab_surveys::survey;
 use lab_views::{compare, view};
 use plain_text::{plain, push_plain};
@@ -166,8 +166,12 @@ fn run_command<X: Threads + Wait + Sync + Clock, F: Files, R: Read + Send, W: Wr
                 output: &mut *outputs.output,
                 errors: &mut *outputs.errors,
                 is_prompted: outputs.terminals.input,
+                is_coloured: painting.output,
             };
             debug(alloc, inputs, program, *given, *run, &mut screen)
+        }
+        LabCommand::Exercise(request) if matches!(request.task, ExerciseTask::Watch) => {
+            watch(rt, alloc, request, inputs, outputs, painting)
         }
         LabCommand::Check(_)
         | LabCommand::Schedule { .. }
@@ -181,6 +185,7 @@ fn run_command<X: Threads + Wait + Sync + Clock, F: Files, R: Read + Send, W: Wr
         | LabCommand::Page(_)
         | LabCommand::Picture(_)
         | LabCommand::Play(_)
+        | LabCommand::Gallery(_)
         | LabCommand::Explain { .. }
         | LabCommand::Word { .. }
         | LabCommand::LayOut(_)
@@ -189,6 +194,28 @@ fn run_command<X: Threads + Wait + Sync + Clock, F: Files, R: Read + Send, W: Wr
             answer_whole(rt, alloc, command, inputs, outputs, painting)
         }
     }
+}
+
+/// Watches an exercise: what is said of it is printed as it comes.
+fn watch<X: Threads + Wait + Sync + Clock, F: Files, R: Read + Send, W: Write, E: Write>(
+    rt: &X,
+    alloc: Global,
+    request: &ExerciseRequest,
+    inputs: &mut Inputs<'_, F, R>,
+    outputs: &mut Outputs<'_, W, E>,
+    painting: Painting,
+) -> Result<Status, LabFault> {
+    let mut console = Console {
+        clock: rt,
+        errors: &mut *outputs.errors,
+        is_terminal: outputs.terminals.errors,
+        memory: outputs.memory,
+    };
+    let mut printer = Printer {
+        output: &mut *outputs.output,
+        is_coloured: painting.output,
+    };
+    watch_exercise(rt, alloc, inputs, request, &mut printer, &mut console)
 }
 
 /// Runs a command that answers when it is done.
@@ -250,6 +277,7 @@ fn answer_to<X: Threads + Wait + Sync + Clock, F: Files, R: Read, W: Write, E: W
         LabCommand::Page(request) => write_page(alloc, inputs, request),
         LabCommand::Picture(request) => write_picture(alloc, inputs, request),
         LabCommand::Play(request) => write_play_page(alloc, inputs, request, console),
+        LabCommand::Gallery(request) => write_gallery(rt, alloc, inputs, request, console),
         LabCommand::Explain { words } => explain(alloc, words),
         LabCommand::Word { words } => show_word(alloc, words),
         LabCommand::LayOut(request) => lay_out(alloc, inputs, request),

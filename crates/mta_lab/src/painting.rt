@@ -53,15 +53,15 @@ fn is_for_people(command: &LabCommand) -> bool {
         LabCommand::Explore(request) => !request.shown.json,
         LabCommand::Grade(request) => request.format == GradeFormat::Text,
         LabCommand::Merge(request) => request.format == GradeFormat::Text,
-        LabCommand::Exercise(_) => true,
+        LabCommand::Exercise(_) | LabCommand::Debug { .. } => true,
         LabCommand::Check(_)
         | LabCommand::Schedule { .. }
-        | LabCommand::Debug { .. }
         | LabCommand::Adapt
         | LabCommand::ServeLanguage
         | LabCommand::Page(_)
         | LabCommand::Picture(_)
         | LabCommand::Play(_)
+        | LabCommand::Gallery(_)
         | LabCommand::Explain { .. }
         | LabCommand::Word { .. }
         | LabCommand::LayOut(_)

@@ -5,6 +5,7 @@ mod both_script;
 mod chart_script;
 mod circle_script;
 mod columns_script;
+mod deciding_script;
 mod elements_script;
 mod end_script;
 mod lanes_script;
@@ -96,6 +97,7 @@ pub(crate) fn push_tail(page: &mut String) -> Result<(), AllocError> {
     page.push_str(tables_script::TEXT)?;
     page.push_str(chart_script::TEXT)?;
     page.push_str(papers_script::TEXT)?;
+    page.push_str(deciding_script::TEXT)?;
     page.push_str(page_script::TEXT)?;
     page.push_str(start_script::TEXT)?;
     page.push_str(template_5::TEXT)
@@ -137,6 +139,7 @@ pub(crate) fn push_pair_tail(page: &mut String) -> Result<(), AllocError> {
     page.push_str(tables_script::TEXT)?;
     page.push_str(chart_script::TEXT)?;
     page.push_str(papers_script::TEXT)?;
+    page.push_str(deciding_script::TEXT)?;
     page.push_str(page_script::TEXT)?;
     page.push_str(both_script::TEXT)?;
     page.push_str(two_start_script::TEXT)?;

@@ -9,6 +9,7 @@ mod findings_script;
 mod goals_script;
 mod going_script;
 mod graph_script;
+mod kept_script;
 mod keys_script;
 mod kinds_script;
 mod lanes_script;
@@ -73,6 +74,7 @@ pub(crate) fn push_tail(page: &mut String) -> Result<(), AllocError> {
     page.push_str(map_script::TEXT)?;
     page.push_str(panes_script::TEXT)?;
     page.push_str(goals_script::TEXT)?;
+    page.push_str(kept_script::TEXT)?;
     page.push_str(going_script::TEXT)?;
     page.push_str(keys_script::TEXT)?;
     page.push_str(template_5::TEXT)

@@ -10,8 +10,8 @@ use Rattle.tag_memory.specs.Answer.{IsDeterminedByWords}
 use Rattle.stream_core.specs.StatusWords.{status_at}
 use Rattle.stream_core.specs.Streams.{StreamValue}
 use Rattle.stream_core.specs.declared.status_words.StatusWord.{StatusWord}
-use Rattle.processor.specs.Processors.{ProcessorValue}
-use Rattle.processor.specs.World.{World}
+use Rattle.machine.specs.Processor.Processors.{ProcessorValue}
+use Rattle.machine.specs.Processor.World.{World}
 use Rattle.step_views.specs.declared.places.StreamPart.{StreamPart}
 use Rattle.step_views.specs.declared.places.StreamPart.TheVariants as part
 use Rattle.step_views.specs.declared.places.Place.{Place}

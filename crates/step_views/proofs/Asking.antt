@@ -7,13 +7,13 @@ use Rattle.stream_core.specs.Streams.{StreamValue}
 use Rattle.stream_core.specs.Effects.{request_of}
 use Rattle.stream_core.specs.declared.steps.Fetch.{Fetch}
 use Rattle.stream_core.specs.declared.steps.Fetch.TheVariants as fetch
-use Rattle.processor.specs.Processors.{ProcessorValue, stream_at}
-use Rattle.processor.specs.Row.{step_fetch_of, request_on_fetch, next_asking, next_on_fetch}
-use Rattle.processor.specs.World.{World}
-use Rattle.processor.specs.declared.steps.Step.{Step}
-use Rattle.processor.specs.declared.steps.Next.{Next}
-use Rattle.processor.specs.declared.steps.Next.TheVariants as next
-use Rattle.processor.proofs.Begun.{request_begun, next_begun}
+use Rattle.machine.specs.Processor.Processors.{ProcessorValue, stream_at}
+use Rattle.machine.specs.Processor.Row.{step_fetch_of, request_on_fetch, next_asking, next_on_fetch}
+use Rattle.machine.specs.Processor.World.{World}
+use Rattle.machine.specs.ProcessorTypes.Step.{Step}
+use Rattle.machine.specs.ProcessorTypes.Next.{Next}
+use Rattle.machine.specs.ProcessorTypes.Next.TheVariants as next
+use Rattle.machine.proofs.Processor.Begun.{request_begun, next_begun}
 use Rattle.machine.specs.MachineValue.{next_at}
 use Rattle.step_views.specs.StepViews.{asked_in, reference_to, reference_of}
 use Rattle.step_views.specs.declared.step_views.Reference.{Reference}

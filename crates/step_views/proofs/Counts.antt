@@ -3,8 +3,8 @@ use Rattle.std.proofs.Common.{◌≡◌, ◌≢◌, ℕ, inl, inr, refl, sym, ap
 use Rattle.std.specs.Option.{option_map}
 use Rattle.tag_memory.specs.Cell.{Cell}
 use Rattle.tag_memory.specs.Storage.{TaggedMemory, cell_at}
-use Rattle.processor.specs.Processors.{ProcessorValue}
-use Rattle.processor.specs.World.{World, counts_at}
+use Rattle.machine.specs.Processor.Processors.{ProcessorValue}
+use Rattle.machine.specs.Processor.World.{World, counts_at}
 use Rattle.step_views.specs.declared.places.Place.TheVariants as place
 use Rattle.step_views.specs.declared.places.Content.TheVariants as content
 use Rattle.step_views.specs.declared.places.Change.{Change}

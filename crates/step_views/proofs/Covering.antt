@@ -1,7 +1,7 @@
 -- Entries that cover all places of two worlds: what is kept of them are the changes.
 use Rattle.std.proofs.Common.{◌≡◌, ◌≢◌, ◌⊎◌, inl, inr, sym, ap, ◌∙◌, subst, List, [], Some}
 use Rattle.std.proofs.lemmas.Option.{same_Some}
-use Rattle.processor.specs.World.{World}
+use Rattle.machine.specs.Processor.World.{World}
 use Rattle.step_views.specs.declared.places.Place.{Place}
 use Rattle.step_views.specs.declared.places.Change.{Change}
 use Rattle.step_views.specs.Places.{content_of}

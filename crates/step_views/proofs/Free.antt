@@ -6,9 +6,9 @@ use Rattle.std.proofs.lemmas.Bool.{ltb-true, cond_below}
 use Rattle.std.proofs.lemmas.List.Sums.{passes_at_first}
 use Rattle.std.proofs.lemmas.Option.{slice_get-get_or, same_Some}
 use Rattle.stream_core.specs.Streams.{idle}
-use Rattle.processor.specs.Processors.{ProcessorValue, is_idle, IsCounted}
-use Rattle.processor.specs.Row.{lowest_idle}
-use Rattle.processor.proofs.Counting.{idle_there}
+use Rattle.machine.specs.Processor.Processors.{ProcessorValue, is_idle, IsCounted}
+use Rattle.machine.specs.Processor.Row.{lowest_idle}
+use Rattle.machine.proofs.Processor.Counting.{idle_there}
 use Rattle.step_views.specs.Comparing.{free_in}
 
 some_if : (b : Bool) (o : Option ℕ) (j : ℕ) → (if b then o else None) ≡ Some j → (b ≡ true) × (o ≡ Some j)

@@ -2,7 +2,7 @@
 use Rattle.std.proofs.Common.{◌≡◌, ◌≢◌, ℕ, inl, inr, sym, ap, ◌∙◌}
 use Rattle.std.proofs.Common.{List, [], ◌++◌, Option, Some, None}
 use Rattle.stream_core.specs.Streams.{StreamValue}
-use Rattle.processor.specs.World.{World}
+use Rattle.machine.specs.Processor.World.{World}
 use Rattle.step_views.specs.declared.places.StreamPart.{StreamPart}
 use Rattle.step_views.specs.declared.places.Place.{Place}
 use Rattle.step_views.specs.declared.places.Place.TheVariants as place

@@ -7,7 +7,7 @@ use Rattle.std.proofs.lemmas.List.Sums.{position_or_len_is}
 use Rattle.std.proofs.lemmas.Bool.{cases_lt, cond_below, cond_above}
 use Rattle.std.proofs.lemmas.Option.{slice_get_within, slice_get-get_or, get_or_from_slice_get, same_Some}
 use Rattle.stream_core.specs.Streams.{StreamValue, idle}
-use Rattle.processor.specs.Processors.{ProcessorValue, is_idle}
+use Rattle.machine.specs.Processor.Processors.{ProcessorValue, is_idle}
 use Rattle.machine.specs.MachineValue.{MachineValue, IsMachine}
 use Rattle.step_views.specs.Places.{used_stream_in}
 use Rattle.step_views.specs.Comparing.{idle_in}

@@ -13,11 +13,11 @@ use Rattle.stream_core.specs.declared.steps.Fetch.{Fetch}
 use Rattle.stream_core.specs.declared.steps.Fetch.TheVariants as fetch
 use Rattle.stream_core.specs.declared.steps.Control.{Control}
 use Rattle.stream_core.specs.declared.steps.Control.TheVariants as asks
-use Rattle.processor.specs.Processors.{ProcessorValue, is_idle, stream_at, IsCounted}
-use Rattle.processor.specs.Row.{lacks_stream, step_fetch_of, grant_of, with_stream, after_control}
-use Rattle.processor.specs.Row.{after_control_if_done}
-use Rattle.processor.specs.Row.{row_on_fetch, row, request, memory_reply, row_over_memory}
-use Rattle.processor.proofs.Begun.{rests, awake, free, row_is}
+use Rattle.machine.specs.Processor.Processors.{ProcessorValue, is_idle, stream_at, IsCounted}
+use Rattle.machine.specs.Processor.Row.{lacks_stream, step_fetch_of, grant_of, with_stream, after_control}
+use Rattle.machine.specs.Processor.Row.{after_control_if_done}
+use Rattle.machine.specs.Processor.Row.{row_on_fetch, row, request, memory_reply, row_over_memory}
+use Rattle.machine.proofs.Processor.Begun.{rests, awake, free, row_is}
 
 -- more streams are current
 abbrev Grows : ProcessorValue → ProcessorValue → Type 0

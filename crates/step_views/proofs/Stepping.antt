@@ -8,9 +8,9 @@ use Rattle.std.proofs.lemmas.Bool.{cases_lt}
 use Rattle.tag_memory.specs.Cell.{Cell}
 use Rattle.tag_memory.specs.Storage.{cell_at}
 use Rattle.stream_core.specs.Streams.{StreamValue, idle}
-use Rattle.processor.specs.Processors.{ProcessorValue, is_idle, stream_at, IsCounted}
-use Rattle.processor.specs.OtherStreams.{IsStarted, KeepsOthers}
-use Rattle.processor.specs.World.{World, counts_at, counts_of}
+use Rattle.machine.specs.Processor.Processors.{ProcessorValue, is_idle, stream_at, IsCounted}
+use Rattle.machine.specs.Processor.OtherStreams.{IsStarted, KeepsOthers}
+use Rattle.machine.specs.Processor.World.{World, counts_at, counts_of}
 use Rattle.step_views.specs.declared.places.StreamPart.{StreamPart}
 use Rattle.step_views.specs.declared.places.Place.{Place}
 use Rattle.step_views.specs.declared.places.Place.TheVariants as place

@@ -6,12 +6,12 @@ use Rattle.std.proofs.lemmas.Option.{slice_get_within}
 use Rattle.tag_memory.specs.Answer.{OthersStay}
 use Rattle.image_file.specs.ImageValue.{ImageValue}
 use Rattle.stream_core.specs.declared.steps.Outcome.{Outcome}
-use Rattle.processor.specs.Processors.{ProcessorValue, IsCounted}
-use Rattle.processor.specs.Row.{request, memory_reply, row_over_memory}
-use Rattle.processor.specs.World.{World, counts_at, counts_of, world_step, after}
-use Rattle.processor.specs.declared.steps.Step.{Step}
-use Rattle.processor.proofs.OtherStreams.{kept_row_over_memory}
-use Rattle.processor.proofs.World.{world_step-absent, world_step-present}
+use Rattle.machine.specs.Processor.Processors.{ProcessorValue, IsCounted}
+use Rattle.machine.specs.Processor.Row.{request, memory_reply, row_over_memory}
+use Rattle.machine.specs.Processor.World.{World, counts_at, counts_of, world_step, after}
+use Rattle.machine.specs.ProcessorTypes.Step.{Step}
+use Rattle.machine.proofs.Processor.OtherStreams.{kept_row_over_memory}
+use Rattle.machine.proofs.Processor.World.{world_step-absent, world_step-present}
 use Rattle.step_views.specs.declared.places.Change.{Change}
 use Rattle.step_views.specs.declared.seen.Seen.{Seen}
 use Rattle.step_views.specs.declared.step_views.Reference.{Reference}

@@ -12,7 +12,7 @@ use Rattle.tag_memory.specs.Access.{access_control, effect}
 use Rattle.tag_memory.specs.Chain.{is_tag_operation, probe_cell, end_by_probe, end_from}
 use Rattle.tag_memory.specs.Answer.{answer_by_effect, at_end, answer, OthersStay}
 use Rattle.tag_memory.specs.declared.requests.Request.{Request}
-use Rattle.processor.specs.Row.{memory_reply}
+use Rattle.machine.specs.Processor.Row.{memory_reply}
 use Rattle.step_views.specs.declared.step_views.Reference.{Reference}
 use Rattle.step_views.specs.StepViews.{reference_to}
 

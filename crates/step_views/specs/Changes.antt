@@ -1,7 +1,7 @@
 -- The changes from one world to another.
 use Rattle.std.specs.Prelude.{◌≡◌, ◌≢◌, ◌↔◌, List, Some}
 use Rattle.std.specs.List.{Contains, AllPairs}
-use Rattle.processor.specs.World.{World}
+use Rattle.machine.specs.Processor.World.{World}
 use Rattle.step_views.specs.declared.places.Place.{Place}
 use Rattle.step_views.specs.declared.places.Change.{Change}
 use Rattle.step_views.specs.Places.{content_of}

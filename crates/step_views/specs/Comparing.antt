@@ -6,9 +6,9 @@ use Rattle.std.specs.Option.{option_map}
 use Rattle.tag_memory.specs.Cell.{Cell}
 use Rattle.tag_memory.specs.Storage.{TaggedMemory, cell_at}
 use Rattle.stream_core.specs.Streams.{StreamValue, idle}
-use Rattle.processor.specs.Processors.{ProcessorValue, is_idle}
-use Rattle.processor.specs.World.{World, counts_of}
-use Rattle.processor.specs.declared.steps.Step.{Step}
+use Rattle.machine.specs.Processor.Processors.{ProcessorValue, is_idle}
+use Rattle.machine.specs.Processor.World.{World, counts_of}
+use Rattle.machine.specs.ProcessorTypes.Step.{Step}
 use Rattle.step_views.specs.declared.places.StreamPart.{StreamPart}
 use Rattle.step_views.specs.declared.places.StreamPart.TheVariants as part
 use Rattle.step_views.specs.declared.places.Place.{Place}

@@ -1,7 +1,7 @@
 -- Nothing of a world stands outside its places.
 use Rattle.std.specs.Prelude.{◌≡◌, ℕ, length, Some}
 use Rattle.stream_core.specs.Streams.{StreamValue}
-use Rattle.processor.specs.World.{World}
+use Rattle.machine.specs.Processor.World.{World}
 use Rattle.step_views.specs.declared.places.Place.{Place}
 use Rattle.step_views.specs.Places.{used_stream, content_of}
 

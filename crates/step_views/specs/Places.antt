@@ -5,8 +5,8 @@ use Rattle.tag_memory.specs.Cell.{Cell, tag_number}
 use Rattle.tag_memory.specs.Storage.{cell_at}
 use Rattle.stream_core.specs.Registers.{register_at, target_at}
 use Rattle.stream_core.specs.Streams.{StreamValue}
-use Rattle.processor.specs.Processors.{ProcessorValue}
-use Rattle.processor.specs.World.{World}
+use Rattle.machine.specs.Processor.Processors.{ProcessorValue}
+use Rattle.machine.specs.Processor.World.{World}
 use Rattle.step_views.specs.declared.places.StreamPart.{StreamPart}
 use Rattle.step_views.specs.declared.places.StreamPart.TheVariants as part
 use Rattle.step_views.specs.declared.places.Place.{Place}

@@ -7,10 +7,10 @@ use Rattle.tag_memory.specs.Chain.{end_of}
 use Rattle.tag_memory.specs.Answer.{answer, address_at}
 use Rattle.image_file.specs.ImageValue.{ImageValue}
 use Rattle.stream_core.specs.Streams.{StreamValue}
-use Rattle.processor.specs.Processors.{ProcessorValue}
-use Rattle.processor.specs.Row.{request}
-use Rattle.processor.specs.World.{World, after, outcome_of}
-use Rattle.processor.specs.declared.steps.Step.{Step}
+use Rattle.machine.specs.Processor.Processors.{ProcessorValue}
+use Rattle.machine.specs.Processor.Row.{request}
+use Rattle.machine.specs.Processor.World.{World, after, outcome_of}
+use Rattle.machine.specs.ProcessorTypes.Step.{Step}
 use Rattle.step_views.specs.declared.step_views.Reference.{Reference}
 use Rattle.step_views.specs.declared.step_views.StepView.{StepView}
 use Rattle.step_views.specs.Places.{used_stream}

@@ -2,8 +2,8 @@
 
 ghost use Rattle.std.specs.Prelude.{◌≡◌, ◌≤◌, ◌+◌, vec_len, vec_capacity, slice_get};
 ghost use Rattle.std.specs.Option.{option_copied};
-ghost use Rattle.processor.specs.Processors.{ProcessorValue, IsCounted, is_idle};
-ghost use Rattle.processor.specs.World.{counts_of};
+ghost use Rattle.machine.specs.Processor.Processors.{ProcessorValue, IsCounted, is_idle};
+ghost use Rattle.machine.specs.Processor.World.{counts_of};
 ghost use Rattle.step_views.specs.Places.{used_stream};
 ghost use Rattle.step_views.specs.StepViews.{pc_of};
 ghost use Rattle.step_views.specs.Comparing.{AreKept, idle_in, free_in, word_seen, compared};
@@ -14,7 +14,7 @@ use crate::places::Change;
 use crate::reading::stream_of;
 use crate::step_views::Reference;
 use machine::Machine;
-use processor::Step;
+use machine::processors::Step;
 use stream_core::{Status, Stream};
 use tag_memory::Word;
 

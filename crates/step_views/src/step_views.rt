@@ -1,13 +1,13 @@
 //! What one step of a machine did.
 
 ghost use Rattle.std.specs.Prelude.{◌≡◌, IfOk, OnOk, OnErr};
-ghost use Rattle.processor.specs.World.{after};
+ghost use Rattle.machine.specs.Processor.World.{after};
 ghost use Rattle.step_views.specs.StepViews.{reference_of, IsViewOf};
 
 use crate::places::Change;
 use crate::seen::Seen;
 use machine::Machine;
-use processor::{Next, Step};
+use machine::processors::{Next, Step};
 use std::alloc::{AllocError, Global};
 use stream_core::Outcome;
 use tag_memory::{Reply, Request, serving_laws};

@@ -27,8 +27,8 @@ pub(crate) fn megabytes_of_each(in_all: usize, searches: usize) -> usize {
     }
 }
 
-/// How many of so many megabytes the searches hold that go on side by side. A fifth is for what the process keeps of those
-/// that are over.
+/// How many of so many megabytes the searches hold that go on side by side. A third is for what no search counts, and for
+/// what the process keeps of those that are over.
 fn shared_megabytes(in_all: usize) -> usize {
-    in_all - in_all / 5
+    in_all - in_all / 3
 }

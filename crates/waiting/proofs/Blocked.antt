@@ -21,12 +21,12 @@ use Rattle.stream_core.specs.declared.steps.Outcome.TheVariants as outcome
 use Rattle.stream_core.specs.declared.steps.Fetch.{Fetch}
 use Rattle.stream_core.specs.declared.steps.Fetch.TheVariants as fetch
 use Rattle.stream_core.specs.declared.steps.Control.{Control}
-use Rattle.processor.specs.Processors.{ProcessorValue, stream_at}
-use Rattle.processor.specs.Row.{step_fetch_of, request_on_fetch, next_asking, next_on_fetch, next_of}
-use Rattle.processor.specs.Row.{grant_of, with_stream, after_control_if_done, put_back, row_on_fetch, row}
-use Rattle.processor.specs.Row.{memory_reply, row_over_memory}
-use Rattle.processor.specs.declared.steps.Next.TheVariants as next
-use Rattle.processor.proofs.Begun.{row_is, request_begun, next_begun, ask_request}
+use Rattle.machine.specs.Processor.Processors.{ProcessorValue, stream_at}
+use Rattle.machine.specs.Processor.Row.{step_fetch_of, request_on_fetch, next_asking, next_on_fetch, next_of}
+use Rattle.machine.specs.Processor.Row.{grant_of, with_stream, after_control_if_done, put_back, row_on_fetch, row}
+use Rattle.machine.specs.Processor.Row.{memory_reply, row_over_memory}
+use Rattle.machine.specs.ProcessorTypes.Next.TheVariants as next
+use Rattle.machine.proofs.Processor.Begun.{row_is, request_begun, next_begun, ask_request}
 use Rattle.waiting.specs.Deciding.{retries_for_ever}
 use Rattle.waiting.proofs.Refusals.{is_refusal, refused_kept}
 

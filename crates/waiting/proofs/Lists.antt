@@ -7,10 +7,10 @@ use Rattle.std.specs.Prelude.{Contains}
 use Rattle.std.proofs.lemmas.List.Elements.{Contains-append_left, Contains-append_right, Contains-append_cases}
 use Rattle.std.proofs.lemmas.List.Elements.{Contains-push, Contains-push_cases}
 use Rattle.stream_core.specs.Streams.{StreamValue}
-use Rattle.processor.specs.Processors.{ProcessorValue}
-use Rattle.processor.specs.Records.{is_running}
-use Rattle.processor.specs.World.{World}
-use Rattle.processor.specs.declared.steps.Step.{Step}
+use Rattle.machine.specs.Processor.Processors.{ProcessorValue}
+use Rattle.machine.specs.Processor.Records.{is_running}
+use Rattle.machine.specs.Processor.World.{World}
+use Rattle.machine.specs.ProcessorTypes.Step.{Step}
 use Rattle.waiting.specs.Running.{streams_at, runs_at, running_from, running_of, running_steps, AreRunning}
 
 -- a step, if a test holds

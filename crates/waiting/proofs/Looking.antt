@@ -2,8 +2,8 @@
 use Rattle.std.proofs.Common.{◌≡◌, ℕ, ◌+◌, ◌<◌, ◌≤◌, Bool, true, false, refl, sym, ap, ◌∙◌, subst, arith}
 use Rattle.std.proofs.Common.{List, [], ◌++◌, length, drop, slice_get, append_assoc, append-nil}
 use Rattle.std.proofs.lemmas.List.{drop_all}
-use Rattle.processor.specs.World.{World}
-use Rattle.processor.specs.declared.steps.Step.{Step}
+use Rattle.machine.specs.Processor.World.{World}
+use Rattle.machine.specs.ProcessorTypes.Step.{Step}
 use Rattle.machine.specs.MachineValue.{MachineValue, IsMachine}
 use Rattle.waiting.specs.Running.{streams_at, runs_in, running_from, running_of, running_steps, AreRunning}
 use Rattle.waiting.proofs.Lists.{step_if, running-drop, running_of-drop, all_running}

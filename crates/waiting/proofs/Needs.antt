@@ -16,15 +16,15 @@ use Rattle.stream_core.specs.declared.steps.Status.{Status}
 use Rattle.stream_core.specs.declared.steps.Status.TheVariants.{Idle, Running, Stopped}
 use Rattle.stream_core.specs.declared.steps.Fetch.{Fetch}
 use Rattle.stream_core.specs.declared.steps.Fetch.TheVariants as fetch
-use Rattle.processor.specs.Processors.{ProcessorValue, stream_at}
-use Rattle.processor.specs.Records.{is_running_status}
-use Rattle.processor.specs.Row.{lacks_stream, image_fetch, step_fetch_from, step_fetch, step_fetch_of}
-use Rattle.processor.specs.Row.{next_asking, next_on_fetch, next_of}
-use Rattle.processor.specs.Row as row
-use Rattle.processor.specs.declared.steps.Next.{Next}
-use Rattle.processor.specs.declared.steps.Next.TheVariants as next
-use Rattle.processor.specs.declared.steps.Step.{Step}
-use Rattle.processor.proofs.Begun.{rests, next_begun}
+use Rattle.machine.specs.Processor.Processors.{ProcessorValue, stream_at}
+use Rattle.machine.specs.Processor.Records.{is_running_status}
+use Rattle.machine.specs.Processor.Row.{lacks_stream, image_fetch, step_fetch_from, step_fetch, step_fetch_of}
+use Rattle.machine.specs.Processor.Row.{next_asking, next_on_fetch, next_of}
+use Rattle.machine.specs.Processor.Row as row
+use Rattle.machine.specs.ProcessorTypes.Next.{Next}
+use Rattle.machine.specs.ProcessorTypes.Next.TheVariants as next
+use Rattle.machine.specs.ProcessorTypes.Step.{Step}
+use Rattle.machine.proofs.Processor.Begun.{rests, next_begun}
 use Rattle.machine.specs.MachineValue.{MachineValue, next_at, next_in}
 use Rattle.waiting.specs.Running.{streams_at, runs_at, runs_in}
 

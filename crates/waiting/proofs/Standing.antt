@@ -11,13 +11,13 @@ use Rattle.stream_core.specs.declared.steps.Outcome.{Outcome}
 use Rattle.stream_core.specs.declared.steps.Fetch.{Fetch}
 use Rattle.stream_core.specs.declared.steps.Fetch.TheVariants as fetch
 use Rattle.stream_core.specs.Streams.{StreamValue, idle}
-use Rattle.processor.specs.Processors.{ProcessorValue, stream_at}
-use Rattle.processor.specs.Records.{is_running}
-use Rattle.processor.specs.Row.{step_fetch_of, next_of, request}
-use Rattle.processor.specs.World.{World, after, steps, stream_of, stream_seen_at}
-use Rattle.processor.specs.declared.steps.Step.{Step}
-use Rattle.processor.proofs.Begun.{rests, row_begun, request_begun}
-use Rattle.processor.proofs.Histories.{after-known, after-absent}
+use Rattle.machine.specs.Processor.Processors.{ProcessorValue, stream_at}
+use Rattle.machine.specs.Processor.Records.{is_running}
+use Rattle.machine.specs.Processor.Row.{step_fetch_of, next_of, request}
+use Rattle.machine.specs.Processor.World.{World, after, steps, stream_of, stream_seen_at}
+use Rattle.machine.specs.ProcessorTypes.Step.{Step}
+use Rattle.machine.proofs.Processor.Begun.{rests, row_begun, request_begun}
+use Rattle.machine.proofs.Processor.Histories.{after-known, after-absent}
 use Rattle.machine.specs.MachineValue.{MachineValue, IsMachine}
 use Rattle.waiting.specs.Running.{streams_at, runs_at, runs_in}
 use Rattle.waiting.specs.Stuck.{AllStuck, StaysForEver}

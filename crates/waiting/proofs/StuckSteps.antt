@@ -16,14 +16,14 @@ use Rattle.stream_core.specs.Streams.{StreamValue, idle}
 use Rattle.stream_core.specs.StreamRow.{after_blocked_reply}
 use Rattle.stream_core.specs.declared.steps.Outcome.{Outcome}
 use Rattle.stream_core.specs.declared.steps.Outcome.TheVariants as outcome
-use Rattle.processor.specs.Processors.{ProcessorValue, stream_at}
-use Rattle.processor.specs.Row.{step_fetch_of, next_of, with_stream, put_back, row_over_memory}
-use Rattle.processor.specs.World.{World, world_step, world_step_at, world_with, stream_of, stream_seen_at}
-use Rattle.processor.specs.declared.steps.Next.{Next}
-use Rattle.processor.specs.declared.steps.Next.TheVariants as next
-use Rattle.processor.specs.declared.steps.Step.{Step}
-use Rattle.processor.proofs.Begun.{rests, awake}
-use Rattle.processor.proofs.World.{world_step-present}
+use Rattle.machine.specs.Processor.Processors.{ProcessorValue, stream_at}
+use Rattle.machine.specs.Processor.Row.{step_fetch_of, next_of, with_stream, put_back, row_over_memory}
+use Rattle.machine.specs.Processor.World.{World, world_step, world_step_at, world_with, stream_of, stream_seen_at}
+use Rattle.machine.specs.ProcessorTypes.Next.{Next}
+use Rattle.machine.specs.ProcessorTypes.Next.TheVariants as next
+use Rattle.machine.specs.ProcessorTypes.Step.{Step}
+use Rattle.machine.proofs.Processor.Begun.{rests, awake}
+use Rattle.machine.proofs.Processor.World.{world_step-present}
 use Rattle.machine.specs.MachineValue.{MachineValue, IsMachine, next_at, next_in}
 use Rattle.waiting.specs.Running.{streams_at, runs_at, runs_in}
 use Rattle.waiting.specs.Stuck.{IsStuck}

@@ -9,10 +9,10 @@ use Rattle.tag_memory.specs.Answer.{answer}
 use Rattle.tag_memory.specs.declared.requests.Request.{Request}
 use Rattle.tag_memory.specs.declared.requests.Reply.{Reply}
 use Rattle.tag_memory.specs.declared.requests.Reply.TheVariants as reply
-use Rattle.processor.specs.Processors.{ProcessorValue}
-use Rattle.processor.specs.declared.steps.Next.{Next}
-use Rattle.processor.specs.declared.steps.Next.TheVariants as next
-use Rattle.processor.specs.declared.steps.Step.{Step}
+use Rattle.machine.specs.Processor.Processors.{ProcessorValue}
+use Rattle.machine.specs.ProcessorTypes.Next.{Next}
+use Rattle.machine.specs.ProcessorTypes.Next.TheVariants as next
+use Rattle.machine.specs.ProcessorTypes.Step.{Step}
 use Rattle.machine.specs.MachineValue.{MachineValue, next_at, next_in}
 use Rattle.waiting.specs.declared.waits.Wait.{Wait}
 use Rattle.waiting.specs.Stuck.{IsStuck}

@@ -1,3 +1,3 @@
 -- Definitions of processor that callers name, passed on.
-pub use Rattle.processor.specs.Processors
-pub use Rattle.processor.specs.World
+pub use Rattle.machine.specs.Processor.Processors
+pub use Rattle.machine.specs.Processor.World

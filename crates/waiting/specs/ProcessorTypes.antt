@@ -1,2 +1,2 @@
 -- Types of processor that callers name, passed on.
-pub use Rattle.processor.specs.declared.steps.Step
+pub use Rattle.machine.specs.ProcessorTypes.Step

@@ -2,10 +2,10 @@
 use Rattle.std.specs.Prelude.{ℕ, ◌+◌, Bool, false, List, [], ◌∷◌, ◌++◌, Option, Some, None, slice_get}
 use Rattle.std.specs.Prelude.{if◌then◌else◌, Contains, IsTrue, ◌↔◌}
 use Rattle.stream_core.specs.Streams.{StreamValue}
-use Rattle.processor.specs.Processors.{ProcessorValue}
-use Rattle.processor.specs.Records.{is_running}
-use Rattle.processor.specs.World.{World}
-use Rattle.processor.specs.declared.steps.Step.{Step}
+use Rattle.machine.specs.Processor.Processors.{ProcessorValue}
+use Rattle.machine.specs.Processor.Records.{is_running}
+use Rattle.machine.specs.Processor.World.{World}
+use Rattle.machine.specs.ProcessorTypes.Step.{Step}
 
 -- the streams of a processor that may be missing
 abbrev pub streams_at : Option ProcessorValue → List StreamValue

@@ -2,8 +2,8 @@
 use Rattle.std.specs.Prelude.{◌≡◌, IsTrue, List}
 use Rattle.image_file.specs.ImageValue.{ImageValue}
 use Rattle.stream_core.specs.declared.steps.Outcome.TheVariants as outcome
-use Rattle.processor.specs.World.{World, world_step, steps}
-use Rattle.processor.specs.declared.steps.Step.{Step}
+use Rattle.machine.specs.Processor.World.{World, world_step, steps}
+use Rattle.machine.specs.ProcessorTypes.Step.{Step}
 use Rattle.waiting.specs.Running.{runs_in}
 
 -- The stream that the step names runs, and the step is Blocked and leaves the world as it is.

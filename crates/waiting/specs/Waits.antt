@@ -7,8 +7,8 @@ use Rattle.tag_memory.specs.Chain.{end_of}
 use Rattle.tag_memory.specs.Answer.{answer, address_at}
 use Rattle.tag_memory.specs.declared.requests.Request.{Request}
 use Rattle.tag_memory.specs.declared.requests.Reply.TheVariants as reply
-use Rattle.processor.specs.declared.steps.Next.TheVariants as next
-use Rattle.processor.specs.declared.steps.Step.{Step}
+use Rattle.machine.specs.ProcessorTypes.Next.TheVariants as next
+use Rattle.machine.specs.ProcessorTypes.Step.{Step}
 use Rattle.machine.specs.MachineValue.{MachineValue, next_in}
 use Rattle.waiting.specs.declared.waits.Wait.{Wait}
 use Rattle.waiting.specs.declared.waits.Wanted.{Wanted}

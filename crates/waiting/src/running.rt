@@ -1,11 +1,11 @@
 //! Which streams run.
 
 ghost use Rattle.std.specs.Prelude.{◌≡◌, ◌++◌, slice_get, IfOk, OnOk};
-ghost use Rattle.processor.specs.Records.{is_running_status};
+ghost use Rattle.machine.specs.Processor.Records.{is_running_status};
 ghost use Rattle.waiting.specs.Running.{streams_at, runs_in, running_from, running_steps, AreRunning};
 
 use machine::Machine;
-use processor::Step;
+use machine::processors::Step;
 use std::alloc::{AllocError, Global};
 use stream_core::Status;
 

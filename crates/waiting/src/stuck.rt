@@ -6,7 +6,7 @@ ghost use Rattle.waiting.specs.Deciding.{is_kept_by};
 
 use crate::running::runs;
 use machine::Machine;
-use processor::Next;
+use machine::processors::Next;
 use stream_core::Stream;
 use tag_memory::Reply;
 

@@ -7,7 +7,7 @@ ghost use Rattle.waiting.specs.Deciding.{wait_replied, wanted_by};
 
 use crate::waits::{Wait, Wanted};
 use machine::Machine;
-use processor::Next;
+use machine::processors::Next;
 use tag_memory::{Acc, AccessControl, MemOp, Reply, Request};
 
 /// What stream `s` of processor `p` waits for: Some exactly where its next step asks the memory and the memory would

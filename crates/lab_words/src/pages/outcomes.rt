@@ -66,6 +66,23 @@ Deadlock: every running stream is blocked forever. No schedule goes on from ther
 
 What to do: view names who waits for whom. Take locks in one order, or release what is held before you wait.
 
+= starvation starving starve
+Starvation: a stream waits forever while others go on. Its steps come, and each of them is blocked.
+
+What to do: mta_lab explore lock.asm --waiting says who can wait forever, and shows how. A ticket, or a turnstile through
+which all go, lets each come in its turn.
+
+= fairness fair
+Fairness: what is asked of a schedule before one says that a stream waits forever. By words: each stream has its steps, and
+one that waits for a word which is in the right state again and again gets it at last.
+
+What to do: mta_lab explore lock.asm --waiting looks for rounds that are fair by words.
+
+= livelock
+Livelock: streams take steps forever, and none of them comes any further, as two that step aside for each other.
+
+What to do: mta_lab explore shows it as spinning. always, never and some in a file of --expect can claim what has to come.
+
 = spinning
 Spinning: streams go on forever and nothing new happens, as a loop that polls a word that nobody changes.
 

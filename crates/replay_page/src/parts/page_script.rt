@@ -59,17 +59,6 @@ function tellingSteps() {
 }
 let telling = [];
 
-/** The step that decides: the first trap that stopped a stream; else the last step in which something was found, or
-  that from which on nobody who had begun goes on; else the last step. */
-function stepThatMatters() {
-  const trapped = steps.findIndex((step) => sign(step) === "stopped") + 1;
-  const found = Math.max(0, ...run.findings.map(lastOfFinding));
-  if (trapped || found) return trapped || found;
-  const stuck = isHeldUp() ? stuckAtEnd().map((id) => atEnd.waiting.get(id)) : [];
-  // (one that has not tried would wait since the word was turned)
-  return Math.max(0, ...stuck.map(({ since, made }) => since || made)) || steps.length;
-}
-
 function seekMarked(by) {
   if (view.line) goTo(seek(numbersOf((step) => stepLine(step) === view.line), by));
   else goTo(seek(view.word === null ? telling : stepsAt.get(view.word) ?? [], by));

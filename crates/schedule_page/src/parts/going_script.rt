@@ -181,12 +181,14 @@ function goToState(w) {
 
 const LINKED = 5000; // steps of a link that are followed
 
-/** Follows a link such as #0.0x2,1.0, or the way on which the page opens, as far as its steps can be taken. */
+/** Follows a link such as #0.0x2,1.0, or the way on which the page opens, as far as its steps can be taken; #ends leads
+  to all ends. */
 function followLink() {
   let hash = "";
   try {
     hash = decodeURIComponent(location.hash.slice(1)) || data.opened || "";
   } catch { /* no text */ }
+  if (hash === "ends") return showAllEnds();
   stop();
   way = [];
   let isWhole = true;

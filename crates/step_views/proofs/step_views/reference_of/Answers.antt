@@ -1,5 +1,5 @@
 use Rattle.std.proofs.Common.{◌∙◌, sym, inl, inr}
-use Rattle.processor.specs.declared.steps.Next.TheVariants as next
+use Rattle.machine.specs.ProcessorTypes.Next.TheVariants as next
 use Rattle.step_views.proofs.Asking.{reference_needed, reference_made}
 use Rattle.step_views.proofs.step_views.reference_of.Goals as goal
 

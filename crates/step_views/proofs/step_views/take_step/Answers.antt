@@ -1,6 +1,6 @@
 use Rattle.std.proofs.Common.{◌∙◌, ap, refl}
 use Rattle.stream_core.specs.declared.steps.Outcome.{Outcome}
-use Rattle.processor.specs.World.{World}
+use Rattle.machine.specs.Processor.World.{World}
 use Rattle.step_views.specs.StepViews.{pc_of}
 use Rattle.step_views.proofs.Viewing.{view_changes}
 use Rattle.step_views.proofs.step_views.take_step.Goals as goal

@@ -1,5 +1,5 @@
 use Rattle.std.proofs.Common.{true, false, sym, ap, ◌∙◌, append-nil, ◌++◌, slice_get, Vec, Global, rules}
-use Rattle.processor.specs.declared.steps.Step.{Step}
+use Rattle.machine.specs.ProcessorTypes.Step.{Step}
 use Rattle.waiting.specs.Running.{streams_at, running_from}
 use Rattle.waiting.proofs.Looking.{one_more_stream, all_streams}
 use Rattle.waiting.proofs.running.push_running.Goals as goal

@@ -1,5 +1,5 @@
 use Rattle.std.proofs.Common.{ap, ◌∙◌, Some}
-use Rattle.processor.specs.Records.{is_running_status}
+use Rattle.machine.specs.Processor.Records.{is_running_status}
 use Rattle.waiting.proofs.Standing.{runs_seen}
 use Rattle.waiting.proofs.running.runs.Goals as goal
 

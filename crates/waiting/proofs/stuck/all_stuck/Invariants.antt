@@ -1,7 +1,7 @@
 -- Each of the streams that were looked at is stuck, if it runs.
 use Rattle.std.proofs.Common.{◌<◌, ℕ}
 use Rattle.std.specs.Prelude.{IsTrue}
-use Rattle.processor.specs.declared.steps.Step.{Step}
+use Rattle.machine.specs.ProcessorTypes.Step.{Step}
 use Rattle.waiting.specs.Running.{runs_in}
 use Rattle.waiting.specs.Stuck.{IsStuck}
 use Rattle.waiting.proofs.stuck.all_stuck.Given as goal

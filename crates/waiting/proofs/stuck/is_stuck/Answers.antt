@@ -1,6 +1,6 @@
 use Rattle.std.proofs.Common.{None, false, refl}
 use Rattle.waiting.proofs.StuckSteps.{stuck_by, stuck_unasked, stuck_asking}
-use Rattle.processor.specs.declared.steps.Step.{Step}
+use Rattle.machine.specs.ProcessorTypes.Step.{Step}
 use Rattle.machine.specs.MachineValue.{next_in}
 use Rattle.waiting.proofs.stuck.is_stuck.Goals as goal
 

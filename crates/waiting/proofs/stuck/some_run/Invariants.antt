@@ -1,6 +1,6 @@
 -- None of the streams that were looked at runs.
 use Rattle.std.proofs.Common.{◌≡◌, ◌<◌, ℕ, false}
-use Rattle.processor.specs.declared.steps.Step.{Step}
+use Rattle.machine.specs.ProcessorTypes.Step.{Step}
 use Rattle.waiting.specs.Running.{runs_in}
 use Rattle.waiting.proofs.stuck.some_run.Given as goal
 

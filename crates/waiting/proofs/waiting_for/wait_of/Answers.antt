@@ -1,5 +1,5 @@
 use Rattle.std.proofs.Common.{None}
-use Rattle.processor.specs.declared.steps.Step.{Step}
+use Rattle.machine.specs.ProcessorTypes.Step.{Step}
 use Rattle.waiting.proofs.Told.{wait_asked, wait_is, stuck_waits, told_unasked, told_asking}
 use Rattle.waiting.proofs.waiting_for.wait_of.Goals as goal
 

@@ -1,5 +1,5 @@
 use Rattle.std.proofs.Common.{◌++◌, subst}
-use Rattle.processor.specs.World.{counts_of}
+use Rattle.machine.specs.Processor.World.{counts_of}
 use Rattle.step_views.specs.Places.{used_stream}
 use Rattle.step_views.specs.Comparing.{AreKept, stream_compared, started_compared, counts_compared}
 use Rattle.step_views.specs.Comparing.{word_compared, compared}

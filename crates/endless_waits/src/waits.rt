@@ -1,0 +1,89 @@
+//! Who can wait forever, among the states that a search found.
+
+ghost use Rattle.std.specs.Prelude.{◌≡◌, IsTrue, IfOk};
+ghost use Rattle.image_file.specs.ImageValue.{ImageValue};
+ghost use Rattle.program_searches.specs.Searches.{IsExplored};
+ghost use Rattle.program_searches.specs.declared.searches.ProgramSearch.{ProgramSearch};
+ghost use Rattle.starving_streams.specs.Starving.{NobodyWaits};
+ghost use Rattle.starving_streams.specs.Reports.{HasAllStates, TellsWhoStarves};
+ghost use Rattle.endless_waits.specs.Waits.{why_not, why_not_in, is_nobody, status_of_waits, TellsWhoWaits};
+
+use crate::unanswered::{Unanswered, why_not};
+use end_kinds::Status;
+use image_machines::by_room;
+use machine::LoadFault;
+use program_searches::Explored;
+use space_ends::space::Space;
+use starving_streams::{StarvingStreams, starving_streams};
+use std::alloc::{AllocError, Global};
+
+/// Who can wait forever.
+#[derive(Drop)]
+pub enum EndlessWaits {
+    /// These can, and of these it was not decided.
+    Answered(StarvingStreams),
+    /// It was not asked.
+    Unanswered(Unanswered),
+}
+
+impl EndlessWaits {
+    /// Whether nobody can: it was asked, no stream is shown, and none was left undecided.
+    pub fn is_nobody(&self) -> bool
+        ensures { result ≡ is_nobody self.now }
+    {
+        match self {
+            EndlessWaits::Answered(found) => {
+                found.starving.is_empty() && found.undecided.is_empty()
+            }
+            EndlessWaits::Unanswered(_) => false,
+        }
+    }
+
+    /// The exit status: done if nobody can, else as of a search that found an endless loop, or that did not come to its end.
+    pub fn status(&self) -> Status
+        ensures { result ≡ status_of_waits self.now }
+    {
+        if self.is_nobody() {
+            Status::Done
+        } else {
+            Status::OutOfSteps
+        }
+    }
+}
+
+/// Who can wait forever in a program of which this search was made: it is asked exactly if the search looked for all states,
+/// has all, and they are no more than `MOST_STATES`. Then each stream that can is shown, with a schedule and a round
+/// in which it starves, or is named as undecided. So if it says that nobody can, no round that is fair by words leaves a
+/// stream waiting.
+pub fn endless_waits(alloc: Global, found: &Explored<'_>) -> Result<EndlessWaits, AllocError>
+    ensures asked { IfOk result (λ w. why_not_in w ≡ why_not found.now) }
+    ensures tells { IfOk result (λ w. (image : ImageValue) (asked : ProgramSearch) → IsExplored image asked found.now
+        → TellsWhoWaits image asked.begin.now w) }
+    ensures nobody { IfOk result (λ w. (image : ImageValue) (asked : ProgramSearch) → IsExplored image asked found.now
+        → IsTrue (is_nobody w) → NobodyWaits image asked.begin.now) }
+{
+    if let Some(reason) = why_not(found) {
+        return Ok(EndlessWaits::Unanswered(reason));
+    }
+    Ok(EndlessWaits::Answered(starving_in(alloc, &found.space)?))
+}
+
+/// The streams that can wait forever, by the worlds of a space.
+fn starving_in(alloc: Global, space: &Space<'_>) -> Result<StarvingStreams, AllocError>
+    ensures { IfOk result (λ r. HasAllStates space.now → TellsWhoStarves space.now.image space.now.begin r) }
+{
+    by_room!(space.image(), starving_on(alloc, space))
+}
+
+/// The same on machines with room for `S` streams a processor.
+fn starving_on<const S: usize>(
+    alloc: Global,
+    space: &Space<'_>,
+) -> Result<StarvingStreams, AllocError>
+    ensures { IfOk result (λ r. HasAllStates space.now → TellsWhoStarves space.now.image space.now.begin r) }
+{
+    match starving_streams::<S>(alloc, space) {
+        Ok(found) => Ok(found),
+        Err(LoadFault::NoMemory | LoadFault::Streams) => Err(AllocError),
+    }
+}

@@ -1,0 +1,2 @@
+-- What the commands decide on lists of values.
+pub mod Levels

@@ -1,0 +1,47 @@
+//! The schedules of streams that can wait forever, as files.
+
+use crate::written_files::WrittenFiles;
+use command_parts::{Inputs, LabFault};
+use endless_waits::EndlessWaits;
+use endless_waits::starving::Starving;
+use processor::Step;
+use std::alloc::{AllocError, Global};
+use std::io::Read;
+use std::rt::Files;
+use trace_text::write_schedule;
+
+/// How often the round stands in the second file: so a run shows that it comes back.
+const ROUNDS: usize = 2;
+
+/// Writes for each stream that can wait forever two schedules into a folder, as `waiting_1.0_stem.schedule` and
+/// `waiting_1.0.schedule`: the one that leads to its round, and that one with the round twice.
+pub(crate) fn keep_waits<F: Files, R: Read>(
+    alloc: Global,
+    inputs: &Inputs<'_, F, R>,
+    folder: &str,
+    waits: Option<&EndlessWaits>,
+    written: &mut WrittenFiles,
+) -> Result<(), LabFault> {
+    let Some(EndlessWaits::Answered(answer)) = waits else {
+        return Ok(());
+    };
+    for starving in &answer.starving {
+        let Step { p, s } = starving.stream;
+        let stem = format!(in alloc; "{folder}/waiting_{p}.{s}_stem.schedule")?;
+        let text = write_schedule(alloc, &starving.stem)?;
+        written.keep(inputs.write_derived(alloc, &stem, text.as_bytes()))?;
+        let whole = format!(in alloc; "{folder}/waiting_{p}.{s}.schedule")?;
+        let text = write_schedule(alloc, &with_rounds(alloc, starving)?)?;
+        written.keep(inputs.write_derived(alloc, &whole, text.as_bytes()))?;
+    }
+    Ok(())
+}
+
+/// The schedule that leads to the round of a stream, and the round twice.
+fn with_rounds(alloc: Global, starving: &Starving) -> Result<Vec<Step>, AllocError> {
+    let mut steps = Vec::from_slice(alloc, &starving.stem)?;
+    for _ in 0..ROUNDS {
+        steps.extend_from_slice(&starving.round)?;
+    }
+    Ok(steps)
+}

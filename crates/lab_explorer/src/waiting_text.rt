@@ -1,0 +1,153 @@
+//! Who can wait forever, in words.
+
+use crate::endless::WaitingProgram;
+use endless_waits::starving::Starving;
+use endless_waits::waits_of_streams::Wait;
+use endless_waits::{EndlessWaits, SeenRound, StreamSteps, seen_round};
+use lab_texts::{ProgramNames, RunPieces, TextWriter, wanted_word};
+use processor::Step;
+use schedule_turns::turns_of;
+use std::alloc::{AllocError, Global};
+
+/// The most turns of a schedule, or of a round, that are shown.
+const MOST_TURNS: usize = 40;
+
+/// Blanks in front of the line below a stream.
+const INDENT: &str = "        ";
+
+/// Adds who can wait forever in a program.
+pub(crate) fn push_waits_lines(
+    alloc: Global,
+    text: &mut String,
+    waiting: WaitingProgram<'_, '_>,
+) -> Result<(), AllocError> {
+    let mut out = TextWriter::take(text);
+    if waiting.waits.is_nobody() {
+        out.put("fair by words: nobody can be blocked forever");
+        out.put(match waiting.begin {
+            0 => "\n",
+            _ => " by a schedule that begins so\n",
+        });
+    }
+    match waiting.waits {
+        EndlessWaits::Unanswered(reason) => {
+            out.put_all(&["not decided: who can wait forever: ", reason.words(), "\n"]);
+        }
+        EndlessWaits::Answered(answer) => {
+            for starving in &answer.starving {
+                let round = seen_round(alloc, waiting.image, starving)?;
+                put_starving(&mut out, waiting.names, starving, &round);
+                put_schedules(&mut out, starving)?;
+            }
+            put_undecided(&mut out, &answer.undecided);
+        }
+    }
+    out.give_back(text)
+}
+
+/// Adds the streams of which it was not decided.
+fn put_undecided(out: &mut TextWriter, streams: &[Step]) {
+    for stream in streams {
+        out.put("not decided: whether ");
+        out.put_stream(stream.p, stream.s);
+        out.put(" can wait forever\n");
+    }
+}
+
+/// Adds a stream that can wait forever: where, for what, by how many steps, and what each stream does in the round.
+fn put_starving(
+    out: &mut TextWriter,
+    names: &ProgramNames<'_>,
+    starving: &Starving,
+    round: &SeenRound,
+) {
+    out.put("fair by words: ");
+    out.put_stream(starving.stream.p, starving.stream.s);
+    out.put(" can wait forever at ");
+    names.put_place(out, round.place);
+    if let Some(wait) = round.wait {
+        put_wait(out, names, wait);
+    }
+    out.put(": a schedule of ");
+    put_steps(out, starving.stem.len());
+    out.put(", then ");
+    put_steps(out, starving.round.len());
+    out.put(" again and again, in which ");
+    put_streams(out, &round.streams);
+    out.put("\n");
+}
+
+/// Adds what a stream waits for.
+fn put_wait(out: &mut TextWriter, names: &ProgramNames<'_>, wait: Wait) {
+    out.put(", for ");
+    names.put_address(out, wait.address);
+    out.put_all(&[" to be ", wanted_word(wait.wanted)]);
+}
+
+/// Adds how many steps they are.
+fn put_steps(out: &mut TextWriter, count: usize) {
+    out.put_number(count as u64);
+    out.put(if count == 1 { " step" } else { " steps" });
+}
+
+/// Adds what the streams do in a round: those that complete steps first, then those that are blocked each time.
+fn put_streams(out: &mut TextWriter, streams: &[StreamSteps]) {
+    let blocked = streams.iter().filter(|known| known.completed == 0).count();
+    let completing = streams.len().saturating_sub(blocked);
+    let mut left = completing;
+    for known in streams.iter().filter(|known| known.completed > 0) {
+        out.put_stream(known.stream.p, known.stream.s);
+        out.put(" completes ");
+        put_steps(out, known.completed);
+        left = left.saturating_sub(1);
+        out.put(if left > 0 { ", " } else { " and " });
+    }
+    put_blocked(out, streams, blocked);
+}
+
+/// Adds the streams that are blocked each time, which are so many.
+fn put_blocked(out: &mut TextWriter, streams: &[StreamSteps], count: usize) {
+    let mut left = count;
+    for known in streams.iter().filter(|known| known.completed == 0) {
+        out.put_stream(known.stream.p, known.stream.s);
+        left = left.saturating_sub(1);
+        out.put(match left {
+            0 => "",
+            1 => " and ",
+            _ => ", ",
+        });
+    }
+    out.put(if count == 1 { " is" } else { " are" });
+    out.put(" blocked each time");
+}
+
+/// Adds the schedule that leads to a round, and the round, below a stream.
+fn put_schedules(out: &mut TextWriter, starving: &Starving) -> Result<(), AllocError> {
+    out.put(INDENT);
+    if !starving.stem.is_empty() {
+        out.put("by ");
+        put_turns(out, &starving.stem)?;
+        out.put(", then ");
+    }
+    out.put("again and again ");
+    put_turns(out, &starving.round)?;
+    out.put("\n");
+    Ok(())
+}
+
+/// Adds the turns of a schedule, as `0 0 3, 1 0 2`, up to 40.
+fn put_turns(out: &mut TextWriter, steps: &[Step]) -> Result<(), AllocError> {
+    for (index, turn) in turns_of(out.alloc(), steps)?.iter().enumerate() {
+        if index == MOST_TURNS {
+            out.put(", ..");
+            break;
+        }
+        out.put(if index == 0 { "" } else { ", " });
+        out.put_number(u64::from(turn.stream.p));
+        out.put(" ");
+        out.put_number(u64::from(turn.stream.s));
+        out.put(" ");
+        out.put_number(turn.count as u64);
+    }
+    Ok(())
+}

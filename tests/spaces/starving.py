@@ -1,0 +1,197 @@
+#!/usr/bin/env python3
+"""Random programs with loops: who can wait forever by `mta_lab explore --waiting`, beside a plain search of rounds by a
+machine of the tests' own (lassos.py). Each stream that is shown has to be one that the search finds, and each that the search
+finds has to be shown. Each schedule and round that is shown is replayed: the round has to come back, to be fair, and to
+leave the stream waiting, and no schedule to its world may be shorter. Each is run by `mta_sim` too, the round once and twice. A
+difference is printed with its seed and its program. Needs Python 3.
+
+  starving [--programs N] [--first SEED] [--jobs N] [--program PATH] [--machine PATH]
+
+There are 1,000 programs from seed 0 on, by the programs that are built here; with PROGRAM=draft in the environment those
+are the drafts."""
+
+import sys
+
+sys.dont_write_bytecode = True
+
+import argparse
+import collections
+import concurrent.futures
+import json
+import os
+import random
+import subprocess
+import tempfile
+
+import machine
+import programs
+import search
+from lassos import Lassos
+from machine import NO_HANDLER, Program, Word
+
+ROOT = os.path.dirname(os.path.dirname(os.path.dirname(os.path.abspath(__file__))))
+sys.path.append(os.path.join(ROOT, "tests"))
+import built
+
+# after so many seconds a call has failed; how many differences are printed; how many worlds a program has, and how many
+# programs a seed tries to find one
+PATIENCE, SHOWN, LEAST, MOST, TRIES = 60, 20, 10, 150, 400
+# the exit status of each kind of end
+OF_ENDS = {"finished": search.DONE, "stopped": search.UNEXPECTED, "deadlock": search.DEADLOCK}
+
+
+def looping(chance):
+    """A random program whose last word leads back: to wait and to fill words is more frequent than in programs.py."""
+    entries, length, memory = chance.choice((2, 2, 3)), chance.choice((3, 4, 5)), chance.choice((1, 2, 2, 3))
+    retry = 1 if chance.random() < 0.05 else 0
+    starts = tuple(chance.randrange(length - 1) for _ in range(entries))
+    data = tuple((chance.choice((0, 0, 1)), chance.choice((0, 1, 1))) for _ in range(memory))
+    words = tuple(word_of(chance, at, length, memory) for at in range(length - 1))
+    last = Word(control=("SKIP", "ALWAYS", 0, -chance.randrange(1, length + 1)))
+    program = Program(1, retry, NO_HANDLER, starts, data, words + (last,))
+    return programs.Made(program, programs.text_of(program), memory)
+
+
+def word_of(chance, at, length, memory):
+    """A word of it."""
+    roll = chance.random()
+    if roll < 0.6:
+        suffix = chance.choice((".S", ".S", ".S", ".N", ".F"))
+        return Word(memory=(chance.choice(("LOAD", "STORE")), suffix, chance.choice((0, 0, 1)), 0, chance.randrange(memory)))
+    if roll < 0.75:
+        return Word(arithmetic=(chance.choice(("SUB", "XOR", "AND")), True, chance.choice((0, 1)), 1, chance.choice((0, 1))))
+    if roll < 0.95:
+        return Word(control=("SKIP", chance.choice(("ALWAYS", "EQ", "NE")), 0, chance.randrange(length) - at - 1))
+    return Word(control=("QUIT",))
+
+
+class Case:
+    """A program that a seed makes, its worlds, and who can wait forever in it."""
+
+    def __init__(self, seed):
+        chance = random.Random(seed)
+        for _ in range(TRIES):
+            self.made = looping(chance) if chance.random() < 0.85 else programs.made(chance)
+            self.space = search.Space(self.made.program, (), MOST)
+            if self.space.is_whole and len(self.space.distance) >= LEAST:
+                break
+        else:
+            raise ValueError(f"seed {seed}: no program of {LEAST} to {MOST} worlds")
+        self.lassos = Lassos(self.space)
+        self.wanted = {name_of(stream) for stream in self.lassos.starving()}
+
+    def status(self):
+        """The worst status of all ends and endless loops: who waits forever does so in one."""
+        found = [OF_ENDS[kind] for kind in self.space.ends().values()]
+        loops = [next(iter(found)) for found in self.space.spinning()]
+        found += [search.UNEXPECTED if search.stopped(world) else search.ENDLESS for world in loops]
+        return search.worst(found + [search.ENDLESS] * bool(self.wanted))
+
+    def differences(self, asked, folder):
+        """What mta_lab says that is not so."""
+        path = os.path.join(folder, "s.asm")
+        with open(path, "wb") as file:
+            file.write(self.made.text)
+        ended = call(asked.program, "explore", "--waiting", "--json", "--keep", os.path.join(folder, "kept"), path)
+        objects = [json.loads(line) for line in ended.stdout.splitlines()]
+        said, = (it for it in objects if it["object"] == "waiting")
+        shown = {it["stream"]: it for it in objects if it["object"] == "starving"}
+        if (said["decided"], said["why"], said["undecided"]) != (True, None, []):
+            yield f"not decided: {said}"
+        if set(shown) != self.wanted or said["nobody"] == bool(self.wanted):
+            yield f"{sorted(shown)} can wait forever, and by the search {sorted(self.wanted)}"
+        if ended.returncode != self.status():
+            yield f"status {ended.returncode}, and not {self.status()}"
+        for name, it in shown.items():
+            yield from self.faults(name, it)
+            yield from self.run_twice(asked, folder, path, name)
+
+    def faults(self, name, it):
+        """What is not so of a stream that is shown."""
+        stem, round_ = steps_of(it["schedule"]), steps_of(it["round"])
+        world = search.world_after(self.made.program, stem)
+        if self.space.distance.get(world) != len(stem) or it["steps"] != len(stem):
+            yield f"{name}: a shortest schedule has {self.space.distance.get(world)} steps, and not {len(stem)}"
+        if fault := self.lassos.fault(world, stream_of(name), round_):
+            yield f"{name}: {fault}"
+        if self.completed(world, round_) != [tuple(pair) for pair in it["completed"]]:
+            yield f"{name}: it completes {it['completed']}, and not {self.completed(world, round_)}"
+        if world.processors[stream_of(name)[0]].streams[stream_of(name)[1]].ssw % 2**32 != it["pc"]:
+            yield f"{name}: it does not stand at {it['pc']}"
+
+    def completed(self, world, schedule):
+        """The streams of a round, in the order of their first steps, and how many steps of each complete."""
+        counts = {}
+        for who in schedule:
+            world, outcome = machine.step(self.made.program, world, *who)
+            counts[name_of(who)] = counts.get(name_of(who), 0) + (outcome != "blocked")
+        return list(counts.items())
+
+    def run_twice(self, asked, folder, path, name):
+        """Whether a run of mta_sim by the kept schedules ends in the world in which the round began."""
+        image = path.removesuffix(".asm") + ".image"
+        call(asked.machine, "asm", path, image)
+        ends = []
+        for file in (f"waiting_{name}_stem.schedule", f"waiting_{name}.schedule"):
+            ended = call(asked.machine, "run", image, os.path.join(folder, "kept", file))
+            ends.append(ended.stdout[ended.stdout.find(b"processor 0 "):])
+        if ends[0] != ends[1] or not ends[0]:
+            yield f"{name}: mta_sim does not come back"
+
+
+def call(*words):
+    """A call that has to end."""
+    return subprocess.run(words, capture_output=True, timeout=PATIENCE, check=False)
+
+
+def name_of(stream):
+    """A stream as it is printed."""
+    return "%d.%d" % stream
+
+
+def stream_of(name):
+    """The stream of a name."""
+    p, s = name.split(".")
+    return int(p), int(s)
+
+
+def steps_of(turns):
+    """The steps of turns."""
+    return [(p, s) for p, s, count in turns for _ in range(count)]
+
+
+def tried(seed, asked):
+    """What differs of the program that a seed makes, with its text, how many can wait forever, and how many worlds it has."""
+    case = Case(seed)
+    with tempfile.TemporaryDirectory(prefix="mta-starving-") as folder:
+        found = list(case.differences(asked, folder))
+    return seed, found, case.made.text.decode(), len(case.wanted), len(case.space.distance)
+
+
+def main():
+    asked = argparse.ArgumentParser(description=__doc__.partition("\n\n")[0])
+    asked.add_argument("--programs", type=int, default=1000, help="how many (1000)")
+    asked.add_argument("--first", type=int, default=0, help="the first seed (0)")
+    asked.add_argument("--program", help="the mta_lab that is tried")
+    asked.add_argument("--machine", help="the mta_sim that runs what is shown")
+    asked.add_argument("--jobs", type=int, default=os.cpu_count(), help="how many at a time (one a processor)")
+    asked = asked.parse_args()
+    asked.program = asked.program or built.path("mta_lab")
+    asked.machine = asked.machine or built.path("mta_sim")
+    seeds = range(asked.first, asked.first + asked.programs)
+    wrong, worlds, counts = 0, 0, collections.Counter()
+    with concurrent.futures.ProcessPoolExecutor(asked.jobs) as pool:
+        for seed, found, text, waiting, count in pool.map(tried, seeds, [asked] * len(seeds), chunksize=5):
+            counts[waiting] += 1
+            worlds += count
+            wrong += bool(found)
+            if found and wrong <= SHOWN:
+                print(f"seed {seed}:\n{text}" + "".join(f"not so: {what}\n" for what in found), flush=True)
+    told = ", ".join(f"{waiting} in {count}" for waiting, count in sorted(counts.items()))
+    print(f"{len(seeds)} programs, {worlds} worlds; streams that can wait forever: {told}")
+    print(f"{len(seeds) - wrong} passed, {wrong} failed")
+    sys.exit(1 if wrong else 0)
+
+
+if __name__ == "__main__":
+    main()
