@@ -52,7 +52,7 @@ pub(crate) fn space_in_time<'i, const S: usize, C: Clock, E: Write>(
     ensures searched { IfOk result (λ found. IsSearched asked.now found.0 found.1) }
 {
     let (space, bound) = space_of::<S, C, E>(alloc, image, asked, watcher)?;
-    let Some(most) = most_looked_at(alloc, &space, asked, watcher)? else {
+    let Some(most) = most_looked_at(&space, asked, watcher) else {
         return Ok((space, bound));
     };
     drop(space);
@@ -62,16 +62,14 @@ pub(crate) fn space_in_time<'i, const S: usize, C: Clock, E: Write>(
 
 /// How many worlds of a space there is time to look at for the claims; None where there is time for all, or no bound of it.
 fn most_looked_at<C: Clock, E: Write>(
-    alloc: Global,
     space: &Space<'_>,
     asked: &ProgramSearch<'_>,
     watcher: &Watcher<'_, '_, C, E>,
-) -> Result<Option<usize>, AllocError> {
-    let claims = asked.required.claims().len() as u64;
-    match watcher.time_left() {
-        Some(time) if claims > 0 => worlds_in_time(alloc, space, claims.saturating_mul(2), time),
-        Some(_) | None => Ok(None),
+) -> Option<usize> {
+    if asked.required.claims().is_empty() {
+        return None;
     }
+    worlds_in_time(space, watcher.time_left()?)
 }
 
 /// The space of a search for so many worlds at most, as one that the time ended.

@@ -1,5 +1,5 @@
 -- Worlds that agree are judged alike: each as the one is in which registers that do not matter hold 0.
-use Rattle.std.proofs.Common.{◌≡◌, ℕ, zero, suc, ◌+◌, cond, ◌<◌, ◌≤◌, ◌⊎◌, inl, inr, refl, sym, ap, ◌∙◌, arith}
+use Rattle.std.proofs.Common.{Bool, ◌≡◌, ℕ, zero, suc, ◌+◌, cond, ◌<◌, ◌≤◌, ◌⊎◌, inl, inr, refl, sym, ap, ◌∙◌, arith}
 use Rattle.std.proofs.Common.{List, [], ◌∷◌, length, map, Option, Some, None, slice_get, ◌&&◌}
 use Rattle.std.specs.Prelude.{IsTrue, nat_le}
 use Rattle.std.specs.List.{list_all}
@@ -20,11 +20,12 @@ use Rattle.expectations.specs.Meeting.{stream_in, holds_in_register, is_number, 
 use Rattle.expectations.specs.NamedRegisters.{names_register, is_register_named}
 use Rattle.expectations.specs.declared.expectation.Expectation.{Expectation}
 use Rattle.expectations.specs.declared.expectation.Expectation.TheVariants as expect
-use Rattle.claims.specs.Holding.{runs_at_places, count_at_places, stream_at, form_holds, holds_by}
+use Rattle.claims.specs.Holding.{runs_at_places, count_at_places, stream_at, form_holds, holds_by, shown_by}
 use Rattle.claims.specs.declared.claim.Claim.{Claim}
 use Rattle.claims.specs.declared.claim.ClaimForm.{ClaimForm}
 use Rattle.claims.specs.declared.claim.ClaimForm.TheVariants as form
 use Rattle.schedule_verdicts.specs.KeptClaims.{all_hold}
+use Rattle.schedule_verdicts.specs.ClaimMarks.{passes}
 use Rattle.schedule_verdicts.specs.NamedRegisters.{AreAllNamed}
 use Rattle.schedule_verdicts.specs.RightEnds.{are_met, is_stop_expected, IsRightEnd}
 
@@ -158,6 +159,9 @@ module _ (l : LiveValue) where
   claims_cleared w [] = refl
   claims_cleared w (c ∷ cs) = λ i. holds_by c.scope (form_cleared w c.form i) && claims_cleared w cs i
 
+  passes_cleared : (w : World) (c : Claim) → passes (cleared l w) c ≡ passes w c
+  passes_cleared w c = ap (λ (b : Bool). holds_by c.scope b && shown_by c.scope b) (form_cleared w c.form)
+
   -- Of two worlds that agree.
 
   module _ (a b : World) (g : AgreeBy l a b) where
@@ -168,6 +172,10 @@ module _ (l : LiveValue) where
     pub agreeing_claims : (cs : List Claim) → all_hold cs a ≡ all_hold cs b
     agreeing_claims cs =
         sym (claims_cleared a cs) ∙ ap (all_hold cs) (agreeing_same l a b g) ∙ claims_cleared b cs
+
+    pub agreeing_passes : (c : Claim) → passes a c ≡ passes b c
+    agreeing_passes c =
+        sym (passes_cleared a c) ∙ ap (λ w. passes w c) (agreeing_same l a b g) ∙ passes_cleared b c
 
     stop_same : (es : List Expectation) (t : Step)
         → is_stop_expected es t.p t.s (stream_in a t.p t.s) ≡ is_stop_expected es t.p t.s (stream_in b t.p t.s)

@@ -7,5 +7,7 @@ mod Sought
 pub mod OnTheWay
 mod Unseen
 mod Shown
+mod Marks
+mod LeadingOn
 -- Of crates below, passed on to callers.
 pub mod ScheduleSpace

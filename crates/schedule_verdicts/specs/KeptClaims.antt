@@ -12,6 +12,10 @@ use Rattle.busy_streams.specs.ScheduleSpace.Spaces.{SpaceValue, count, world_of}
 abbrev pub all_hold : List Claim → World → Bool
 all_hold claims w = list_all (holds w) claims
 
+-- one claim holds of each world of a space
+abbrev pub IsKept : SpaceValue → Claim → Type 0
+IsKept v claim = (k : ℕ) → k < count v → IsTrue (holds (world_of v k) claim)
+
 -- they hold of each world of a space
 abbrev pub AreKept : SpaceValue → List Claim → Type 0
 AreKept v claims = (k : ℕ) → k < count v → IsTrue (all_hold claims (world_of v k))

@@ -2,8 +2,10 @@
 
 ghost use Rattle.std.specs.Prelude.{◌≡◌, ◌↔◌, ◌<◌, IsTrue, IfOk, Err};
 ghost use Rattle.claims.specs.Holding.{holds};
-ghost use Rattle.schedule_verdicts.specs.KeptClaims.{all_hold, AreKept, AreKeptOnTheWay};
+ghost use Rattle.schedule_verdicts.specs.KeptClaims.{all_hold, IsKept, AreKept, AreKeptOnTheWay};
 
+use crate::claim_marks::ClaimMarks;
+use crate::marking::marks_of_kept;
 use busy_streams::space::Space;
 use claims::Claim;
 use image_file::Image;
@@ -20,12 +22,27 @@ pub(crate) fn are_kept<const S: usize>(
     ensures kept { IfOk result (λ b. IsTrue b ↔ AreKept space.now claims.now) }
     ensures streams { result ≡ Err LoadFault.Streams → S < space.now.image.slim }
 {
-    if claims.is_empty() {
-        return Ok(true);
+    let marks = marks_of_kept::<S>(alloc, space, claims)?;
+    for number in 0..marks.len() {
+        if !is_kept::<S>(alloc, space, &marks[number])? {
+            return Ok(false);
+        }
     }
+    Ok(true)
+}
+
+/// Whether a claim holds of each world of a space.
+fn is_kept<const S: usize>(
+    alloc: Global,
+    space: &Space<'_>,
+    marks: &ClaimMarks<'_, '_>,
+) -> Result<bool, LoadFault>
+    requires { marks.now.space ≡ space.now }
+    ensures kept { IfOk result (λ b. IsTrue b ↔ IsKept space.now marks.now.claim) }
+    ensures streams { result ≡ Err LoadFault.Streams → S < space.now.image.slim }
+{
     for place in 0..space.len() {
-        let machine = space.machine::<S>(alloc, place)?;
-        if !all_hold(&machine, claims) {
+        if !marks.holds::<S>(alloc, place)? {
             return Ok(false);
         }
     }

@@ -4,6 +4,8 @@ ghost use Rattle.std.specs.Prelude.{◌≡◌, ◌<◌, ◌↔◌, IsTrue, IsFal
 ghost use Rattle.schedule_verdicts.specs.ShownClaims.{IsShownOnTheWay, IsUnshownOnTheWay, IsShown, AreShown};
 ghost use Rattle.schedule_verdicts.specs.ShownClaims.{IsUnshownIn, IsUnshownAt, TellsOfClaims};
 
+use crate::claim_marks::ClaimMarks;
+use crate::marking::marks_of_shown;
 use busy_streams::space::Space;
 use claims::Claim;
 use image_file::Image;
@@ -32,8 +34,9 @@ pub fn first_unshown<const S: usize>(
     if usize::from(space.image().slim()) > S {
         return Err(LoadFault::Streams);
     }
-    for place in 0..claims.len() {
-        if !is_shown::<S>(alloc, space, &claims[place])? {
+    let marks = marks_of_shown::<S>(alloc, space, claims)?;
+    for place in 0..marks.len() {
+        if !is_shown::<S>(alloc, space, &marks[place])? {
             return Ok(Some(place));
         }
     }
@@ -44,18 +47,18 @@ pub fn first_unshown<const S: usize>(
 fn is_shown<const S: usize>(
     alloc: Global,
     space: &Space<'_>,
-    claim: &Claim,
+    marks: &ClaimMarks<'_, '_>,
 ) -> Result<bool, LoadFault>
-    ensures shown { IfOk result (λ b. IsTrue b → IsShown space.now.image space.now.begin claim.now) }
-    ensures unshown { IfOk result (λ b. IsFalse b → IsUnshownIn space.now claim.now) }
+    requires { marks.now.space ≡ space.now }
+    ensures shown { IfOk result (λ b. IsTrue b → IsShown space.now.image space.now.begin marks.now.claim) }
+    ensures unshown { IfOk result (λ b. IsFalse b → IsUnshownIn space.now marks.now.claim) }
     ensures streams { (result ≡ Err LoadFault.Streams) ↔ (S < space.now.image.slim) }
 {
-    if is_shown_on_the_way::<S>(alloc, space.image(), space.begin(), claim)? {
+    if is_shown_on_the_way::<S>(alloc, space.image(), space.begin(), marks.claim())? {
         return Ok(true);
     }
     for place in 0..space.len() {
-        let machine = space.machine::<S>(alloc, place)?;
-        if claim.is_shown(&machine) {
+        if marks.is_shown::<S>(alloc, place)? {
             return Ok(true);
         }
     }

@@ -12,7 +12,8 @@ use Rattle.std.proofs.lemmas.List.{get_or-set_same}
 use Rattle.std.proofs.lemmas.List.Elements.{filter-append, AllWithin-set}
 use Rattle.claims.specs.declared.claim.Claim.{Claim}
 use Rattle.seed_verdicts.specs.ScheduleSpace.Spaces.{SpaceValue}
-use Rattle.std.proofs.lemmas.List.{map-append}
+use Rattle.std.proofs.lemmas.List.{map-append, length-map, get_or-map}
+use Rattle.seed_verdicts.specs.ScheduleVerdicts.ClaimMarks.{MarksValue, marks_for}
 use Rattle.space_ends.specs.declared.end_values.SpaceEnd.{SpaceEnd}
 use Rattle.space_ends.specs.FirstBroken.{IsBrokenSo, AreBrokenSo}
 use Rattle.space_ends.specs.BrokenClaims.{EndValue, value_of, broken_places, broken_before, broken_end, broken_end_of, broken_ends}
@@ -69,6 +70,25 @@ claim_more v cs n c olds news firsts below claim added before =
     ∙ append_assoc olds (broken_end_of v n c) rest
     ∙ sym (ap (λ xs. olds ++ broken_ends v n xs) (rest_from cs n c below claim))
     ∙ before
+
+-- the marks at a place are those of the claim that stands there
+mark_at : (v : SpaceValue) (cs : List Claim) (marks : List MarksValue) (n : ℕ) (m : MarksValue)
+    → marks ≡ map (marks_for v) cs → n < length marks → m ≡ get_or marks n m → m ≡ marks_for v (get_or cs n m.claim)
+mark_at v cs marks n m are below read =
+    let long : length marks ≡ length cs = ap length are ∙ length-map cs (marks_for v) in
+    read ∙ ap (λ (ms : List MarksValue). get_or ms n m) are
+    ∙ get_or-map (marks_for v) cs n m.claim m (omega (arith, below, long))
+
+pub marked_more : (v : SpaceValue) (cs : List Claim) (marks : List MarksValue) (n : ℕ) (m : MarksValue)
+    (olds news firsts : List EndValue) → marks ≡ map (marks_for v) cs → n < length marks → m ≡ get_or marks n m
+    → news ≡ olds ++ broken_end_of m.space n m.claim → olds ++ broken_ends v n (drop n cs) ≡ firsts
+    → news ++ broken_ends v (n + 1) (drop (n + 1) cs) ≡ firsts
+marked_more v cs marks n m olds news firsts are below read added before =
+    let long : length marks ≡ length cs = ap length are ∙ length-map cs (marks_for v) in
+    let is = mark_at v cs marks n m are below read in
+    claim_more v cs n m.claim olds news firsts (omega (arith, below, long)) (ap (λ (x : MarksValue). x.claim) is)
+    (subst (λ (u : SpaceValue). news ≡ olds ++ broken_end_of u n m.claim) (ap (λ (x : MarksValue). x.space) is) added)
+    before
 
 pub claims_end : (v : SpaceValue) (cs : List Claim) (n : ℕ) (olds firsts : List EndValue) → length cs ≤ n
     → olds ++ broken_ends v n (drop n cs) ≡ firsts → olds ≡ firsts

@@ -1,9 +1,8 @@
--- The claims hold of each world so far.
-use Rattle.std.proofs.Common.{◌<◌, ℕ}
-use Rattle.std.specs.Prelude.{IsTrue}
-use Rattle.busy_streams.specs.ScheduleSpace.Spaces.{world_of}
-use Rattle.schedule_verdicts.specs.KeptClaims.{all_hold}
+-- Each of the claims so far holds of each world.
+use Rattle.std.proofs.Common.{◌<◌, ℕ, get_or}
+use Rattle.claims.specs.declared.claim.Claim.{Claim}
+use Rattle.schedule_verdicts.specs.KeptClaims.{IsKept}
 use Rattle.schedule_verdicts.proofs.kept_claims.are_kept.Given as goal
 
-abbrev pub invariant-loop-place : goal.invariant-loop-place
-invariant-loop-place g l = (k : ℕ) → k < l.place → IsTrue (all_hold l.claims (world_of l.space k))
+abbrev pub invariant-loop-number : goal.invariant-loop-number
+invariant-loop-number g l = (j : ℕ) (d : Claim) → j < l.number → IsKept l.space (get_or l.claims j d)

@@ -14,8 +14,8 @@ abbrev pub invariant-loop-index : goal.invariant-loop-index
 invariant-loop-index g l =
     record {
       broken :
-          map value_of l.ends.items ++ broken_ends l.space l.index (drop l.index l.claims)
-          ≡ map value_of l.initial.ends.items ++ broken_ends l.space 0 l.claims;
+          map value_of l.ends.items ++ broken_ends l.fn.space l.index (drop l.index l.claims)
+          ≡ map value_of l.initial.ends.items ++ broken_ends l.fn.space 0 l.claims;
       ends : ends_in l.ends.items ≡ ends_in l.initial.ends.items;
       spinning : spinning_in l.ends.items ≡ spinning_in l.initial.ends.items;
       busy : busy_in l.ends.items ≡ busy_in l.initial.ends.items;

@@ -8,4 +8,4 @@ use Rattle.space_ends.proofs.broken_claims.places_that_break.Given as goal
 
 abbrev pub invariant-loop-place : goal.invariant-loop-place
 invariant-loop-place g l =
-    l.places.items ≡ filter (λ k. not (holds (world_of l.space k) l.claim)) (range_with_len 0 l.place)
+    l.places.items ≡ filter (λ k. not (holds (world_of l.marks.space k) l.marks.claim)) (range_with_len 0 l.place)
