@@ -30,9 +30,11 @@ wait_at-requires-2 g c =
     let next = machine_next w.machine way.step in
     let at : IsAt u.space way.to next =
     subst (λ (x : WalkValue). IsAt x.space way.to next) c.self.view_is
-    (step_at w u way next c.self.view_is c.requires c.self.invariant.0 refl) in
-    (
+    (step_at w u way next c.self.view_is c.requires c.self.invariant.0 refl) in (
       search rules,
-      (search rules, with_machine u.space way.to c.in_ok-copy.copy
-      (subst (IsAt u.space way.to) (sym c.in_ok-copy.ensures) at)),
+      (
+        search rules,
+        with_machine u.space way.to c.in_ok-copy.copy
+            (subst (IsAt u.space way.to) (sym c.in_ok-copy.ensures) at),
+      ),
     )
