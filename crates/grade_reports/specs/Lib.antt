@@ -2,4 +2,5 @@
 pub mod Scores
 pub mod RowStatuses
 -- Of crates below, passed on to callers.
+pub mod Judgements
 pub mod JudgementsTypes

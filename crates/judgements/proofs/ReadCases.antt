@@ -5,11 +5,11 @@ use Rattle.image_file.specs.ImageValue.{ImageValue}
 use Rattle.expectation_files.specs.Judged.{are_rules_kept}
 use Rattle.expectation_files.specs.Seen.{requirements_seen}
 use Rattle.expectation_files.specs.declared.requirements.Requirements.{Requirements}
-use Rattle.seed_outcomes.specs.SeedVerdictsTypes.Seeds.{Seeds}
 use Rattle.case_cells.specs.NamedWords.{name_lacking}
 use Rattle.judgements.specs.Cases.{program_by, names_by, said_by, seeds_of, SpeaksOfGivenIn}
 use Rattle.judgements.specs.Right.{IsRightAsAsked, IsWorkDone}
-use Rattle.judgements.specs.Shown.{IsShownBy, IsCaseJudged, IsCaseKnown, IsReadCase, IsUnjudged, IsNotGiven}
+use Rattle.judgements.specs.Shown.{JudgedAs, judged_as, IsShownBy, IsCaseJudged, IsCaseKnown, IsReadCase}
+use Rattle.judgements.specs.Shown.{IsUnjudged, IsNotGiven}
 use Rattle.judgements.specs.Shown.{kind_without_name}
 use Rattle.judgements.specs.Statuses.{IsAsBadAsKind}
 use Rattle.judgements.specs.declared.cases.Case.{Case}
@@ -26,12 +26,12 @@ record IsKnown (asked : AskedJudging) (text : List ℕ) (case : Case) (r : Requi
   right : j.kind ≡ verdict.Right → IsRightAsAsked asked.explored (seeds_of asked) i r
   kept : j.kind ≡ verdict.Right → IsTrue (are_rules_kept i r.rules.items)
   work : j.kind ≡ verdict.Right → IsWorkDone i r (seeds_of asked)
-  shown : IsShownBy i r (seeds_of asked) j ⊎ IsNotGiven j
+  shown : IsShownBy (judged_as asked i r) j ⊎ IsNotGiven j
 
 -- what shows it is what shows what is known by a case
 shown_by : (asked : AskedJudging) (image : ImageValue) (text : List ℕ) (case : Case) (r : Requirements) (j : CaseJudgement)
     → said_by case (program_by image text case) text ≡ Ok (requirements_seen r)
-    → IsShownBy (program_by image text case) r (seeds_of asked) j ⊎ IsNotGiven j
+    → IsShownBy (judged_as asked (program_by image text case) r) j ⊎ IsNotGiven j
     → IsReadCase asked image text case j ⊎ IsUnjudged asked image text case j
 shown_by asked image text case r j said (inl shown) = inl (record { required = r; said = said; shown = shown })
 shown_by asked image text case r j said (inr not_given) = inr (inr (inr not_given))
@@ -62,7 +62,7 @@ pub read_case : {E : Type 0} (asked : AskedJudging) (image : ImageValue) (text :
     → IfOk result (λ (j : CaseJudgement). j.kind ≡ verdict.Right → IsRightAsAsked asked.explored (seeds_of asked) i r)
     → IfOk result (λ (j : CaseJudgement). j.kind ≡ verdict.Right → IsTrue (are_rules_kept i r.rules.items))
     → IfOk result (λ (j : CaseJudgement). j.kind ≡ verdict.Right → IsWorkDone i r (seeds_of asked))
-    → IfOk result (λ (j : CaseJudgement). IsShownBy i r (seeds_of asked) j ⊎ IsNotGiven j)
+    → IfOk result (λ (j : CaseJudgement). IsShownBy (judged_as asked i r) j ⊎ IsNotGiven j)
     → IfOk result (λ (j : CaseJudgement). IsCaseKnown asked image text case j)
 read_case asked image text case i r (Err e) same said given right kept work shown = tt
 read_case asked image text case i r (Ok j) same said given right kept work shown =
@@ -84,9 +84,9 @@ without_name asked image text case name j lacks why kind = record {
 }
 
 -- what shows a verdict shows that of a judgement which is the same but for its status
-shown_alike : (image : ImageValue) (required : Requirements) (seeds : Seeds) (j k : CaseJudgement) → k.kind ≡ j.kind
-    → k.reason ≡ j.reason → k.ends ≡ j.ends → IsShownBy image required seeds j → IsShownBy image required seeds k
-shown_alike image required seeds j k kind why ends shown = rw (kind, why, ends) shown
+shown_alike : (p : JudgedAs) (j k : CaseJudgement) → k.kind ≡ j.kind → k.reason ≡ j.reason → k.ends ≡ j.ends
+    → IsShownBy p j → IsShownBy p k
+shown_alike p j k kind why ends shown = rw (kind, why, ends) shown
 
 unjudged_alike : (asked : AskedJudging) (image : ImageValue) (text : List ℕ) (case : Case) (j k : CaseJudgement)
     → k.kind ≡ j.kind → k.reason ≡ j.reason → IsUnjudged asked image text case j → IsUnjudged asked image text case k
@@ -117,7 +117,7 @@ known_alike asked image text case j k kind why ends (inl read) = inl (record {
   required = read.required;
   said = read.said;
   shown =
-      shown_alike (program_by image text case) read.required (seeds_of asked) j k kind why ends read.shown;
+      shown_alike (judged_as asked (program_by image text case) read.required) j k kind why ends read.shown;
 })
 known_alike asked image text case j k kind why ends (inr unjudged) =
     inr (unjudged_alike asked image text case j k kind why unjudged)

@@ -32,11 +32,12 @@ missed_at_end (space_end.End k) missed = missed_at_kind k missed
 missed_at_end (space_end.Broken claim) missed = Some (line.Claim claim)
 missed_at_end space_end.Busy missed = Some line.Busy
 
--- of a run with a flaw: the claim that is broken on its way, or else the first expectation that its end misses
+-- of a run with a flaw: the claim that is broken on its way, the expectation that it misses, or else the first one that its
+-- end does
 abbrev pub missed_in_run : RunFlaw → Option ℕ → Option MissedLine
 missed_in_run run_flaw.Trap missed = expectation_at missed
 missed_in_run run_flaw.Deadlock missed = expectation_at missed
-missed_in_run (run_flaw.Missed expectation) missed = expectation_at missed
+missed_in_run (run_flaw.Missed expectation) missed = Some (line.End expectation)
 missed_in_run (run_flaw.Broken taken claim) missed = Some (line.Claim claim)
 missed_in_run run_flaw.OutOfSteps missed = expectation_at missed
 

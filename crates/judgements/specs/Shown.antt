@@ -1,21 +1,36 @@
 -- What shows a verdict.
-use Rattle.std.specs.Prelude.{◌≡◌, ◌⊎◌, ℕ, List, Some, Ok, Err, not, Bool, if◌then◌else◌}
+use Rattle.std.specs.Prelude.{◌≡◌, ◌⊎◌, ◌↔◌, ℕ, List, [], Option, Some, None, Ok, Err, not, Bool, IsTrue, IsFalse, IsSome, if◌then◌else◌}
 use Rattle.std.specs.List.{position}
 use Rattle.image_file.specs.ImageValue.{ImageValue}
+use Rattle.processor.specs.declared.steps.Step.{Step}
+use Rattle.machine.specs.MachineValue.{MachineValue}
+use Rattle.schedule_makers.specs.Seeds.{rule_of_seed}
+use Rattle.schedule_makers.specs.FairLengths.{IsFairLength}
+use Rattle.schedule_makers.specs.Made.{IsMade}
+use Rattle.schedule_makers.specs.declared.made.MadeEnd.{MadeEnd}
+use Rattle.end_kinds.specs.Ends.{IsKindOf}
+use Rattle.expectations.specs.Meeting.{is_met}
+use Rattle.lab_requests.specs.declared.requests.Bounds.{Bounds}
 use Rattle.program_rules.specs.Keeping.{is_kept}
 use Rattle.expectation_files.specs.Seen.{requirements_seen}
 use Rattle.expectation_files.specs.declared.faults.FileFault.TheVariants as file
 use Rattle.expectation_files.specs.declared.faults.LineFault.{LineFault}
 use Rattle.expectation_files.specs.declared.requirements.Requirements.{Requirements}
-use Rattle.seed_outcomes.specs.SeedVerdicts.Seeds.{AreJudged}
-use Rattle.seed_outcomes.specs.SeedVerdicts.ShownBySeeds.{IsUnshownBySeeds}
+use Rattle.program_searches.specs.Searches.{IsExplored}
+use Rattle.program_searches.specs.Statuses.{unkept_in}
+use Rattle.program_searches.specs.declared.explored.Explored.{Explored}
+use Rattle.program_searches.specs.declared.searches.ProgramSearch.{ProgramSearch}
+use Rattle.seed_outcomes.specs.EndStates.EndStates.{IsEndState}
+use Rattle.seed_outcomes.specs.ScheduleVerdicts.RightEnds.{AreTrapsExpected}
+use Rattle.seed_outcomes.specs.SeedVerdicts.Seeds.{AreJudged, loaded}
+use Rattle.seed_outcomes.specs.SeedVerdicts.ShownBySeeds.{IsUnshownBySeeds, AreShownBySeeds}
 use Rattle.seed_outcomes.specs.SeedVerdictsTypes.Seeds.{Seeds}
 use Rattle.seed_outcomes.specs.SpaceEndsTypes.SpaceEnd.{SpaceEnd}
 use Rattle.seed_work.specs.SeedWork.{IsWorkJudged}
 use Rattle.seed_work.specs.declared.missed_work.MissedWork.{MissedWork}
 use Rattle.case_cells.specs.NamedWords.{name_lacking}
 use Rattle.judgements.specs.Cases.{program_by, said_by, seeds_of}
-use Rattle.judgements.specs.Flaws.{kind_of_run, kind_of_work, kind_of_end, ShowsAt}
+use Rattle.judgements.specs.Flaws.{kind_of_run, kind_of_work, kind_of_end, ShowNothing, ShowsAt}
 use Rattle.judgements.specs.Right.{IsRightCase}
 use Rattle.judgements.specs.Statuses.{IsAsBadAsKind}
 use Rattle.judgements.specs.declared.cases.Case.{Case}
@@ -28,18 +43,78 @@ use Rattle.judgements.specs.declared.end_flaws.EndFlaw.{EndFlaw}
 use Rattle.judgements.specs.declared.verdict_kinds.VerdictKind.{VerdictKind}
 use Rattle.judgements.specs.declared.verdict_kinds.VerdictKind.TheVariants as verdict
 
--- The run of a seed is the first of all seeds that is not right, and the verdict is that of what is wrong with it.
+-- The run of a seed, by the schedule of at most so many steps that its rule makes, ends as it is shown.
+pub record EndsAsShown (image : ImageValue) (required : Requirements) (most : ℕ) (run : ShownRun) : Type 0 where
+  pub fair : ℕ
+  pub is_fair : IsFairLength (loaded image) fair
+  pub machine : MachineValue
+  pub schedule : List Step
+  pub end : MadeEnd
+  pub made : IsMade (rule_of_seed run.seed fair) (loaded image) machine most schedule end
+  pub kind : IsKindOf machine.image machine.world run.end.judgement.kind
+  pub missed : run.end.judgement.missed ≡ position (λ x. not (is_met machine.world x)) required.ends.items
+  pub trapped : IsFalse run.end.judgement.is_trapped ↔ AreTrapsExpected required.ends.items machine.world
+  pub state : IsEndState machine run.end.state
+
+-- The run of a seed is the first of all seeds that is not right, it ends as it is shown, and the verdict is that of what is
+-- wrong with it.
 pub record IsShownByRun (image : ImageValue) (required : Requirements) (seeds : Seeds) (kind : VerdictKind)
     (run : ShownRun) : Type 0 where
   pub first : AreJudged image required.ends.items required.claims.items seeds
       (Some (record { seed = run.seed; flaw = run.flaw }))
+  pub end : EndsAsShown image required seeds.most run
   pub verdict : kind ≡ kind_of_run run.flaw
 
--- An end of all schedules shows a flaw, and the verdict is that of this flaw.
-pub record IsShownByEnd (ends : List SpaceEnd) (kind : VerdictKind) (place : ℕ) : Type 0 where
+-- how far a search is asked to go, whatever memory it may take: the most worlds, and the most seconds
+pub record SearchLimits : Type 0 where
+  pub worlds : ℕ
+  pub seconds : Option ℕ
+
+abbrev pub limits_of : Option Bounds → Option SearchLimits
+limits_of None = None
+limits_of (Some bounds) = Some (record { worlds = bounds.worlds; seconds = bounds.seconds })
+
+-- A search among all schedules of a program, with these limits, came to this.
+pub record IsFoundWithin (limits : SearchLimits) (image : ImageValue) (required : Requirements) (found : Explored)
+    : Type 0 where
+  pub search : ProgramSearch
+  pub required : search.required.now ≡ required
+  pub begin : search.begin.now ≡ []
+  pub worlds : search.bounds.worlds ≡ limits.worlds
+  pub seconds : search.bounds.seconds ≡ limits.seconds
+  pub explored : IsExplored image search found
+
+-- the same, if a search was asked for
+abbrev pub IsFound : Option SearchLimits → ImageValue → Requirements → Explored → Type 0
+IsFound None image required found = ⊥
+IsFound (Some limits) image required found = IsFoundWithin limits image required found
+
+-- An end that a search found shows a flaw, and the verdict is that of this flaw.
+pub record IsShownByEnd (limits : Option SearchLimits) (image : ImageValue) (required : Requirements)
+    (ends : List SpaceEnd) (kind : VerdictKind) (place : ℕ) : Type 0 where
+  pub found : Explored
+  pub search : IsFound limits image required found
+  pub ends : found.ends.items ≡ ends
   pub flaw : EndFlaw
   pub end : ShowsAt ends flaw place
   pub verdict : kind ≡ kind_of_end flaw
+
+-- A complete search found no world that shows a claim, which has to hold of one at least.
+pub record IsUnshownBySchedules (limits : Option SearchLimits) (image : ImageValue) (required : Requirements)
+    (kind : VerdictKind) (claim : ℕ) : Type 0 where
+  pub found : Explored
+  pub search : IsFound limits image required found
+  pub complete : IsTrue found.is_complete
+  pub unshown : found.unshown ≡ Some claim
+  pub verdict : kind ≡ verdict.Wrong
+
+-- A search found nothing against a program, and not either that it is right.
+pub record IsLeftOpen (limits : Option SearchLimits) (image : ImageValue) (required : Requirements) : Type 0 where
+  pub found : Explored
+  pub search : IsFound limits image required found
+  pub flawless : ShowNothing found.ends.items
+  pub shown : (unkept_in found).unshown ≡ None
+  pub not_right : IsFalse found.is_right
 
 -- The program of an image breaks a rule, the first of those that are required.
 pub record IsShownByRule (image : ImageValue) (required : Requirements) (kind : VerdictKind) (rule : ℕ) : Type 0 where
@@ -59,33 +134,67 @@ pub record IsShownByWork (image : ImageValue) (required : Requirements) (seeds :
   pub first : IsWorkJudged image required.work.items seeds (Some missed)
   pub verdict : kind ≡ kind_of_work missed.end
 
--- it is a verdict by what was looked at alone
-abbrev pub IsLooked : VerdictKind → Type 0
-IsLooked kind = (kind ≡ verdict.Right) ⊎ (kind ≡ verdict.NotDecided)
+-- The runs of all seeds are right and show each claim, and it is required that no stream loops alone, which no run shows.
+pub record IsBeyondRuns (image : ImageValue) (required : Requirements) (seeds : Seeds) (kind : VerdictKind) : Type 0 where
+  pub judged : AreJudged image required.ends.items required.claims.items seeds None
+  pub shown : AreShownBySeeds image required.claims.items seeds
+  pub asked : IsSome required.never_busy
+  pub verdict : kind ≡ verdict.NotDecided
 
--- what decides a verdict on a program, of which this is required
-abbrev pub IsShownFor : ImageValue → Requirements → Seeds → List SpaceEnd → VerdictKind → Reason → Type 0
-IsShownFor image required seeds ends kind reason.Looked = IsLooked kind
-IsShownFor image required seeds ends kind (reason.Run run) = IsShownByRun image required seeds kind run
-IsShownFor image required seeds ends kind (reason.End place) = IsShownByEnd ends kind place
-IsShownFor image required seeds ends kind (reason.NoSchedule claim) = kind ≡ verdict.Wrong
-IsShownFor image required seeds ends kind (reason.NoRun claim) = IsUnshownByRuns image required seeds kind claim
-IsShownFor image required seeds ends kind reason.NoRunCan = kind ≡ verdict.NotDecided
-IsShownFor image required seeds ends kind (reason.Rule rule) = IsShownByRule image required kind rule
-IsShownFor image required seeds ends kind (reason.Work missed) = IsShownByWork image required seeds kind missed
-IsShownFor image required seeds ends kind (reason.Absent number fault) = ⊥
-IsShownFor image required seeds ends kind (reason.Lacking name) = ⊥
-IsShownFor image required seeds ends kind (reason.NotGiven number) = ⊥
+-- it is a verdict by what was looked at alone: right, or left open by a search
+abbrev pub IsLooked : Option SearchLimits → ImageValue → Requirements → VerdictKind → Type 0
+IsLooked limits image required kind =
+    (kind ≡ verdict.Right) ⊎ ((kind ≡ verdict.NotDecided) × IsLeftOpen limits image required)
 
-abbrev pub IsShownBy : ImageValue → Requirements → Seeds → CaseJudgement → Type 0
-IsShownBy image required seeds j = IsShownFor image required seeds j.ends.items j.kind j.reason
+-- a program, what is required of it, how far it is searched, if it is, and the seeds that are tried
+pub record JudgedAs : Type 0 where
+  pub image : ImageValue
+  pub required : Requirements
+  pub limits : Option SearchLimits
+  pub seeds : Seeds
+
+-- what decides a verdict on a program
+abbrev pub IsShownFor : JudgedAs → List SpaceEnd → VerdictKind → Reason → Type 0
+IsShownFor p ends kind reason.Looked = IsLooked p.limits p.image p.required kind
+IsShownFor p ends kind (reason.Run run) = IsShownByRun p.image p.required p.seeds kind run
+IsShownFor p ends kind (reason.End place) = IsShownByEnd p.limits p.image p.required ends kind place
+IsShownFor p ends kind (reason.NoSchedule claim) = IsUnshownBySchedules p.limits p.image p.required kind claim
+IsShownFor p ends kind (reason.NoRun claim) = IsUnshownByRuns p.image p.required p.seeds kind claim
+IsShownFor p ends kind reason.NoRunCan = IsBeyondRuns p.image p.required p.seeds kind
+IsShownFor p ends kind (reason.Rule rule) = IsShownByRule p.image p.required kind rule
+IsShownFor p ends kind (reason.Work missed) = IsShownByWork p.image p.required p.seeds kind missed
+IsShownFor p ends kind (reason.Absent number fault) = ⊥
+IsShownFor p ends kind (reason.Lacking name) = ⊥
+IsShownFor p ends kind (reason.NotGiven number) = ⊥
+
+-- a program that is looked at by a search with these bounds, if there are some, and by the seeds that are asked for
+abbrev pub judged_within : Option Bounds → AskedJudging → ImageValue → Requirements → JudgedAs
+judged_within explored asked image required =
+    record { image = image; required = required; limits = limits_of explored; seeds = seeds_of asked }
+
+-- a program as it is asked to be looked at
+abbrev pub judged_as : AskedJudging → ImageValue → Requirements → JudgedAs
+judged_as asked image required = judged_within asked.explored asked image required
+
+abbrev pub IsShownBy : JudgedAs → CaseJudgement → Type 0
+IsShownBy p j = IsShownFor p j.ends.items j.kind j.reason
+
+-- the same by the runs of seeds alone, whatever search is asked for
+abbrev pub IsShownWithoutSearch : AskedJudging → ImageValue → Requirements → CaseJudgement → Type 0
+IsShownWithoutSearch asked image required j =
+    (explored : Option Bounds) → IsShownBy (judged_within explored asked image required) j
+
+-- the same by a search with these bounds alone, whatever the seeds are
+abbrev pub IsShownWithin : Bounds → ImageValue → Requirements → CaseJudgement → Type 0
+IsShownWithin bounds image required j =
+    (asked : AskedJudging) → IsShownBy (judged_within (Some bounds) asked image required) j
 
 -- What is known of a submission of this image and text by a case that speaks of what the submission has.
 pub record IsReadCase (asked : AskedJudging) (image : ImageValue) (text : List ℕ) (case : Case) (j : CaseJudgement)
     : Type 0 where
   pub required : Requirements
   pub said : said_by case (program_by image text case) text ≡ Ok (requirements_seen required)
-  pub shown : IsShownBy (program_by image text case) required (seeds_of asked) j
+  pub shown : IsShownBy (judged_as asked (program_by image text case) required) j
 
 -- The case speaks of something that the submission lacks: nothing is known against the submission.
 pub record IsAbsent (image : ImageValue) (text : List ℕ) (case : Case) (j : CaseJudgement) : Type 0 where

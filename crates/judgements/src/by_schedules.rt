@@ -1,12 +1,8 @@
 //! What every schedule says of a submission.
 
-ghost use Rattle.std.specs.Prelude.{◌≡◌, IsTrue, IfOk};
-ghost use Rattle.image_file.specs.ImageValue.{ImageValue};
-ghost use Rattle.expectation_files.specs.declared.requirements.Requirements.{Requirements};
-ghost use Rattle.seed_outcomes.specs.SeedVerdictsTypes.Seeds.{Seeds};
-ghost use Rattle.judgements.specs.Cases.{seeds_of};
+ghost use Rattle.std.specs.Prelude.{◌≡◌, IsTrue, IfOk, Some};
 ghost use Rattle.judgements.specs.Right.{IsRightBySchedules};
-ghost use Rattle.judgements.specs.Shown.{IsShownBy, IsShownFor};
+ghost use Rattle.judgements.specs.Shown.{JudgedAs, IsFound, IsLeftOpen, IsShownBy, IsShownFor, IsShownWithin, judged_within, limits_of};
 
 use crate::by_seeds::judged_by_seeds;
 use crate::case_judgements::{CaseJudgement, Reason};
@@ -56,7 +52,8 @@ pub(crate) fn judged_by_schedules<X: Threads + Sync, C: Clock, E: Write>(
 ) -> Result<CaseJudgement, CaseFault>
     ensures right { IfOk result (λ j. j.kind ≡ VerdictKind.Right
         → IsRightBySchedules judged.entry.image.now judged.entry.required.now) }
-    ensures shown { IfOk result (λ j. IsShownBy judged.entry.image.now judged.entry.required.now (seeds_of asked) j) }
+    ensures shown { IfOk result (λ j. IsShownBy
+        (judged_within (Some bounds) asked judged.entry.image.now judged.entry.required.now) j) }
 {
     let searched = searched(alloc, bounds, judged, console)?;
     if searched.judgement.kind != VerdictKind::NotDecided {
@@ -75,8 +72,9 @@ pub(crate) fn searched<C: Clock, E: Write>(
 ) -> Result<SearchJudgement, CaseFault>
     ensures right { IfOk result (λ s. s.judgement.kind ≡ VerdictKind.Right
         → IsRightBySchedules judged.entry.image.now judged.entry.required.now) }
-    ensures shown { IfOk result (λ s. (seeds : Seeds)
-        → IsShownBy judged.entry.image.now judged.entry.required.now seeds s.judgement) }
+    ensures shown { IfOk result (λ s. IsShownWithin bounds judged.entry.image.now judged.entry.required.now s.judgement) }
+    ensures left { IfOk result (λ s. s.judgement.kind ≡ VerdictKind.NotDecided
+        → IsLeftOpen (limits_of (Some bounds)) judged.entry.image.now judged.entry.required.now) }
 {
     let search = ProgramSearch {
         required: judged.required,
@@ -96,8 +94,9 @@ pub(crate) fn searched<C: Clock, E: Write>(
 /// What a search says of a program.
 fn judged_by_search(alloc: Global, found: Explored<'_>) -> CaseJudgement
     ensures right { result.kind ≡ VerdictKind.Right → IsTrue found.entry.is_right }
-    ensures shown { (image : ImageValue) (required : Requirements) (seeds : Seeds)
-        → IsShownBy image required seeds result }
+    ensures shown { (p : JudgedAs) → IsFound p.limits p.image p.required found.entry → IsShownBy p result }
+    ensures left { (p : JudgedAs) → IsFound p.limits p.image p.required found.entry
+        → result.kind ≡ VerdictKind.NotDecided → IsLeftOpen p.limits p.image p.required }
 {
     let known = known_of(&found);
     let status = found.status();
@@ -111,8 +110,10 @@ fn judged_by_search(alloc: Global, found: Explored<'_>) -> CaseJudgement
 /// What a program is by what a search found, and for which reason.
 fn decided_by(found: &Explored<'_>) -> (VerdictKind, Reason)
     ensures right { result.0 ≡ VerdictKind.Right → IsTrue found.now.is_right }
-    ensures shown { (image : ImageValue) (required : Requirements) (seeds : Seeds)
-        → IsShownFor image required seeds found.now.ends.items result.0 result.1 }
+    ensures shown { (p : JudgedAs) → IsFound p.limits p.image p.required found.now
+        → IsShownFor p found.now.ends.items result.0 result.1 }
+    ensures left { (p : JudgedAs) → IsFound p.limits p.image p.required found.now
+        → result.0 ≡ VerdictKind.NotDecided → IsLeftOpen p.limits p.image p.required }
 {
     if let Some(flawed) = first_end_flaw(&found.ends) {
         return (flawed.flaw.kind(), Reason::End(flawed.end));
@@ -139,8 +140,8 @@ fn known_of(found: &Explored<'_>) -> Known {
 /// What is known of a program that a search did not decide: what random schedules say, and all that was looked at.
 pub(crate) fn undecided(sampled: CaseJudgement, searched: SearchJudgement) -> CaseJudgement
     ensures right { ¬ (result.kind ≡ VerdictKind.Right) }
-    ensures shown { (image : ImageValue) (required : Requirements) (seeds : Seeds)
-        → IsShownBy image required seeds sampled → IsShownBy image required seeds result }
+    ensures shown { (p : JudgedAs) → IsLeftOpen p.limits p.image p.required → IsShownBy p sampled
+        → IsShownBy p result }
 {
     let mut judgement = not_decided(sampled, searched.is_shown);
     judgement.known = Known {
@@ -156,8 +157,8 @@ pub(crate) fn undecided(sampled: CaseJudgement, searched: SearchJudgement) -> Ca
 /// stream loops is no reason after a search.
 fn not_decided(sampled: CaseJudgement, is_shown: bool) -> CaseJudgement
     ensures right { ¬ (result.kind ≡ VerdictKind.Right) }
-    ensures shown { (image : ImageValue) (required : Requirements) (seeds : Seeds)
-        → IsShownBy image required seeds sampled → IsShownBy image required seeds result }
+    ensures shown { (p : JudgedAs) → IsLeftOpen p.limits p.image p.required → IsShownBy p sampled
+        → IsShownBy p result }
 {
     let is_answered = is_shown || is_of_runs_alone(&sampled.reason);
     let mut judgement = sampled;

@@ -5,7 +5,7 @@ ghost use Rattle.seed_outcomes.specs.SeedVerdicts.Seeds.{AreJudged};
 ghost use Rattle.judgements.specs.Cases.{seeds_of};
 ghost use Rattle.judgements.specs.Flaws.{kind_of_run};
 ghost use Rattle.judgements.specs.Right.{IsRightBySeeds};
-ghost use Rattle.judgements.specs.Shown.{IsShownBy};
+ghost use Rattle.judgements.specs.Shown.{EndsAsShown, IsShownWithoutSearch};
 
 use crate::case_judgements::{CaseJudgement, Reason, ShownRun};
 use crate::cases::AskedJudging;
@@ -17,7 +17,7 @@ use image_machines::{by_room, loaded};
 use machine::LoadFault;
 use schedule_makers::{fair_length, seeded};
 use seed_outcomes::seeds::{RunFlaw, SeedFlaw, Seeds, first_flaw, first_flaw_alone};
-use seed_outcomes::states::{JudgedEnd, judged_end};
+use seed_outcomes::states::judged_end;
 use seed_outcomes::{SeedOutcome, SurveySeeds, outcomes_of, unshown_by_seeds, worst_status};
 use std::alloc::{AllocError, Global};
 use std::thread::Threads;
@@ -47,11 +47,11 @@ pub(crate) fn judged_by_seeds<X: Threads + Sync>(
 ) -> Result<CaseJudgement, AllocError>
     ensures right { IfOk result (λ j. j.kind ≡ VerdictKind.Right
         → IsRightBySeeds image.now required.now (seeds_of asked)) }
-    ensures shown { IfOk result (λ j. IsShownBy image.now required.now (seeds_of asked) j) }
+    ensures shown { IfOk result (λ j. IsShownWithoutSearch asked image.now required.now j) }
 {
     let judgement = match flaw_of(rt, alloc, asked, image, required)? {
         Some(found) => judged_by_flaw(alloc, asked, image, required, found)?,
-        None => judged_flawless(alloc, asked.sampled(), image, required)?,
+        None => judged_flawless(alloc, asked, image, required)?,
     };
     if !asked.counts_all {
         return Ok(judgement);
@@ -89,16 +89,17 @@ fn with_outcomes<X: Threads + Sync>(
 /// What is known of a program of which the run of each seed is right.
 fn judged_flawless(
     alloc: Global,
-    seeds: Seeds,
+    asked: AskedJudging,
     image: &Image,
     required: &Requirements,
 ) -> Result<CaseJudgement, AllocError>
-    requires { AreJudged image.now required.now.ends.items required.now.claims.items seeds None }
-    ensures right { IfOk result (λ j. j.kind ≡ VerdictKind.Right → IsRightBySeeds image.now required.now seeds) }
-    ensures shown { IfOk result (λ j. IsShownBy image.now required.now seeds j) }
+    requires { AreJudged image.now required.now.ends.items required.now.claims.items (seeds_of asked) None }
+    ensures right { IfOk result (λ j. j.kind ≡ VerdictKind.Right
+        → IsRightBySeeds image.now required.now (seeds_of asked)) }
+    ensures shown { IfOk result (λ j. IsShownWithoutSearch asked image.now required.now j) }
 {
-    let known = known_of(seeds.count);
-    if let Some(claim) = unshown_by_seeds(alloc, image, required.claims(), seeds)? {
+    let known = known_of(asked.seeds);
+    if let Some(claim) = unshown_by_seeds(alloc, image, required.claims(), asked.sampled())? {
         let reason = Reason::NoRun { claim };
         return Ok(CaseJudgement::plain(alloc, VerdictKind::NotDecided, known, reason));
     }
@@ -176,36 +177,36 @@ fn judged_by_flaw(
 ) -> Result<CaseJudgement, AllocError>
     requires { AreJudged image.now required.now.ends.items required.now.claims.items (seeds_of asked) (Some found) }
     ensures right { IfOk result (λ j. ¬ (j.kind ≡ VerdictKind.Right)) }
-    ensures shown { IfOk result (λ j. IsShownBy image.now required.now (seeds_of asked) j) }
+    ensures shown { IfOk result (λ j. IsShownWithoutSearch asked image.now required.now j) }
 {
-    let end = by_room!(
-        image,
-        end_of_seed(alloc, asked, image, required, found.seed)
-    )?;
-    let status = end.judgement.status();
+    let run = by_room!(image, shown_run(alloc, asked, image, required, found))?;
+    let status = run.end.judgement.status();
     // (the seeds begin with 0)
     let tried = (found.seed as usize).saturating_add(1);
-    let shown = ShownRun {
-        seed: found.seed,
-        flaw: found.flaw,
-        end,
-    };
     let kind = kind_of(found.flaw);
-    let mut judgement = CaseJudgement::plain(alloc, kind, known_of(tried), Reason::Run(shown));
+    let mut judgement = CaseJudgement::plain(alloc, kind, known_of(tried), Reason::Run(run));
     judgement.status = status;
     Ok(judgement)
 }
 
-/// The end of the run of a seed.
-fn end_of_seed<const S: usize>(
+/// The run of a seed with this flaw, by its end.
+fn shown_run<const S: usize>(
     alloc: Global,
     asked: AskedJudging,
     image: &Image,
     required: &Requirements,
-    seed: u64,
-) -> Result<JudgedEnd, AllocError> {
+    found: SeedFlaw,
+) -> Result<ShownRun, AllocError>
+    ensures seed { IfOk result (λ run. run.seed ≡ found.seed) }
+    ensures flaw { IfOk result (λ run. run.flaw ≡ found.flaw) }
+    ensures end { IfOk result (λ run. EndsAsShown image.now required.now asked.most run) }
+{
     let mut machine = loaded::<S>(alloc, image)?;
     let fair_steps = fair_length(alloc, &machine)?;
-    seeded(alloc, &mut machine, seed, fair_steps, asked.most)?;
-    judged_end(alloc, &machine, required.ends())
+    seeded(alloc, &mut machine, found.seed, fair_steps, asked.most)?;
+    Ok(ShownRun {
+        seed: found.seed,
+        flaw: found.flaw,
+        end: judged_end(alloc, &machine, required.ends())?,
+    })
 }

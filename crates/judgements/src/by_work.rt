@@ -5,7 +5,7 @@ ghost use Rattle.seed_work.specs.SeedWork.{IsWorkJudged};
 ghost use Rattle.judgements.specs.Cases.{seeds_of};
 ghost use Rattle.judgements.specs.Flaws.{kind_of_work};
 ghost use Rattle.judgements.specs.Right.{IsWorkDone};
-ghost use Rattle.judgements.specs.Shown.{IsShownBy};
+ghost use Rattle.judgements.specs.Shown.{IsShownBy, judged_as};
 
 use crate::by_schedules::JudgedProgram;
 use crate::case_judgements::{CaseJudgement, Reason};
@@ -34,8 +34,8 @@ pub(crate) fn with_work<X: Threads + Sync>(
     ensures work { IfOk result (λ j. j.kind ≡ VerdictKind.Right
         → IsWorkDone judged.entry.image.now judged.entry.required.now (seeds_of asked)) }
     ensures shown { IfOk result (λ j.
-        IsShownBy judged.entry.image.now judged.entry.required.now (seeds_of asked) judgement
-        → IsShownBy judged.entry.image.now judged.entry.required.now (seeds_of asked) j) }
+        IsShownBy (judged_as asked judged.entry.image.now judged.entry.required.now) judgement
+        → IsShownBy (judged_as asked judged.entry.image.now judged.entry.required.now) j) }
 {
     if judged.required.work().is_empty() {
         return Ok(judgement);

@@ -201,15 +201,15 @@ impl CaseJudgement {
     }
 }
 
-/// The line that a run with this flaw breaks, or that its end misses, which is that of the expectation at this place.
+/// The line that a run with this flaw breaks or misses, or else the first that its end misses, which is that of the
+/// expectation at this place.
 fn missed_in(flaw: RunFlaw, missed: Option<usize>) -> Option<MissedLine>
     ensures { result ≡ missed_in_run flaw missed }
 {
     match flaw {
         RunFlaw::Broken { claim, .. } => Some(MissedLine::Claim(claim)),
-        RunFlaw::Trap | RunFlaw::Deadlock | RunFlaw::Missed { .. } | RunFlaw::OutOfSteps => {
-            expectation_at(missed)
-        }
+        RunFlaw::Missed { expectation } => Some(MissedLine::End(expectation)),
+        RunFlaw::Trap | RunFlaw::Deadlock | RunFlaw::OutOfSteps => expectation_at(missed),
     }
 }
 

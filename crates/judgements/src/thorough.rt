@@ -1,12 +1,8 @@
 //! What seeds, and then every schedule, say of a submission.
 
-ghost use Rattle.std.specs.Prelude.{◌≡◌, IfOk, true};
-ghost use Rattle.image_file.specs.ImageValue.{ImageValue};
-ghost use Rattle.expectation_files.specs.declared.requirements.Requirements.{Requirements};
-ghost use Rattle.seed_outcomes.specs.SeedVerdictsTypes.Seeds.{Seeds};
-ghost use Rattle.judgements.specs.Cases.{seeds_of};
+ghost use Rattle.std.specs.Prelude.{◌≡◌, IfOk, Some, true};
 ghost use Rattle.judgements.specs.Right.{IsRightBySchedules};
-ghost use Rattle.judgements.specs.Shown.{IsShownBy};
+ghost use Rattle.judgements.specs.Shown.{IsLeftOpen, IsShownBy, IsShownWithin, judged_within, limits_of};
 
 use crate::by_schedules::{JudgedProgram, SearchJudgement, searched, undecided};
 use crate::by_seeds::judged_by_seeds;
@@ -40,7 +36,8 @@ pub(crate) fn judged_thoroughly<X: Threads + Sync, C: Clock, E: Write>(
 ) -> Result<CaseJudgement, CaseFault>
     ensures right { IfOk result (λ j. j.kind ≡ VerdictKind.Right
         → IsRightBySchedules judged.entry.image.now judged.entry.required.now) }
-    ensures shown { IfOk result (λ j. IsShownBy judged.entry.image.now judged.entry.required.now (seeds_of asked) j) }
+    ensures shown { IfOk result (λ j. IsShownBy
+        (judged_within (Some bounds) asked judged.entry.image.now judged.entry.required.now) j) }
 {
     let sampled = judged_by_seeds(rt, alloc, asked, judged.image, judged.required)?;
     if !is_open(sampled.kind) {
@@ -81,8 +78,9 @@ fn searched_widely<C: Clock, E: Write>(
 ) -> Result<SearchJudgement, CaseFault>
     ensures right { IfOk result (λ s. s.judgement.kind ≡ VerdictKind.Right
         → IsRightBySchedules judged.entry.image.now judged.entry.required.now) }
-    ensures shown { IfOk result (λ s. (seeds : Seeds)
-        → IsShownBy judged.entry.image.now judged.entry.required.now seeds s.judgement) }
+    ensures shown { IfOk result (λ s. IsShownWithin bounds judged.entry.image.now judged.entry.required.now s.judgement) }
+    ensures left { IfOk result (λ s. s.judgement.kind ≡ VerdictKind.NotDecided
+        → IsLeftOpen (limits_of (Some bounds)) judged.entry.image.now judged.entry.required.now) }
 {
     let most = bounds.megabytes.unwrap_or(USUAL_MEGABYTES);
     let mut megabytes = most.min(FIRST_MEGABYTES);

@@ -13,3 +13,4 @@ pub mod SeedVerdicts
 pub mod SeedVerdictsTypes
 pub mod SpaceEndsTypes
 pub mod ScheduleVerdicts
+pub mod EndStates

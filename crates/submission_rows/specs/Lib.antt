@@ -1,2 +1,3 @@
 -- The promises, in the order of reading: clauses of public functions cite them.
 pub mod Rows
+pub mod RightRows

@@ -1,13 +1,17 @@
 //! How submissions are judged, and what is said of one.
 
-ghost use Rattle.std.specs.Prelude.{◌≡◌};
+ghost use Rattle.std.specs.Prelude.{◌≡◌, IfOk};
+ghost use Rattle.grade_reports.specs.Judgements.Shown.{limits_of};
+ghost use Rattle.submission_rows.specs.RightRows.{IsAskedBy, IsRightAsGraded};
 
 use crate::memory_shares::{megabytes_in_all, megabytes_of_each};
 use crate::rows::{points_of, row_of};
+use end_kinds::Status;
 use expectation_messages::file_fault;
 use expectation_messages::parts::{LabFault, Program};
 use grade_reports::judges::{
-    AskedJudging, Case, JudgeFault, Submission, SubmissionJudgement, image_by, judged_submission,
+    AskedJudging, Case, JudgeFault, Submission, SubmissionJudgement, VerdictKind, image_by,
+    judged_submission,
 };
 use grade_reports::{GradeRow, ReportForm};
 use lab_requests::{Bounds, GradeRequest};
@@ -63,10 +67,7 @@ impl<'a, 'r> Grading<'a, 'r> {
 impl Grading<'_, '_> {
     /// What is asked of each submission. The seeds of one are shared among the processors where submissions are not.
     pub fn asked(&self) -> AskedJudging
-        ensures seeds { result.seeds ≡ self.now.request.now.seeds }
-        ensures most { result.most ≡ self.now.request.now.most }
-        ensures thorough { result.is_thorough ≡ self.now.request.now.is_thorough }
-        ensures names { result.needs_names ≡ self.now.request.now.needs_names }
+        ensures requested { IsAskedBy self.now.request.now result }
         ensures all { result.counts_all ≡ self.now.request.now.counts_all }
     {
         AskedJudging {
@@ -81,7 +82,9 @@ impl Grading<'_, '_> {
     }
 
     /// How far the search of each submission goes: those that are judged side by side share the megabytes.
-    fn bounds_of_each(&self) -> Option<Bounds> {
+    fn bounds_of_each(&self) -> Option<Bounds>
+        ensures { limits_of result ≡ limits_of self.now.request.now.explored }
+    {
         let mut bounds = self.request.explored?;
         let in_all = megabytes_in_all(self.request);
         let share = megabytes_of_each(in_all, self.jobs);
@@ -125,7 +128,12 @@ pub fn row_on<X: Threads + Sync, C: Clock, E: Write>(
     grading: &Grading<'_, '_>,
     program: &Program,
     console: &mut Console<'_, C, E>,
-) -> Result<GradeRow, LabFault> {
+) -> Result<GradeRow, LabFault>
+    ensures right { IfOk result (λ row. row.kind ≡ VerdictKind.Right
+        → IsRightAsGraded grading.now program.now.image program.now.text.items) }
+    ensures done { IfOk result (λ row. row.status ≡ Status.Done
+        → IsRightAsGraded grading.now program.now.image program.now.text.items) }
+{
     let judgement = judgement_on(rt, alloc, grading, program, console)?;
     Ok(row_of(alloc, grading, program, &judgement)?)
 }
@@ -137,7 +145,12 @@ pub(crate) fn judgement_on<X: Threads + Sync, C: Clock, E: Write>(
     grading: &Grading<'_, '_>,
     program: &Program,
     console: &mut Console<'_, C, E>,
-) -> Result<SubmissionJudgement, LabFault> {
+) -> Result<SubmissionJudgement, LabFault>
+    ensures right { IfOk result (λ j. j.kind ≡ VerdictKind.Right
+        → IsRightAsGraded grading.now program.now.image program.now.text.items) }
+    ensures done { IfOk result (λ j. j.status ≡ Status.Done
+        → IsRightAsGraded grading.now program.now.image program.now.text.items) }
+{
     let submission = Submission {
         image: &program.image,
         text: &program.text,

@@ -1,14 +1,18 @@
-use Rattle.std.proofs.Common.{sym, subst}
+use Rattle.std.proofs.Common.{◌∙◌, sym, subst}
 use Rattle.judgements.specs.Shown.{IsShownFor}
 use Rattle.judgements.specs.declared.case_judgements.Reason.{Reason}
 use Rattle.judgements.specs.declared.verdict_kinds.VerdictKind.{VerdictKind}
 use Rattle.judgements.proofs.by_schedules.judged_by_search.Goals as goal
 
 pub returns-clause-shown : goal.returns-clause-shown
-returns-clause-shown c = λ image required seeds.
+returns-clause-shown c = λ p search.
     let ends = c.args.found.ends.items in
     let decided = c.decided_by-decided.result in
-    subst (λ (v : VerdictKind). IsShownFor image required seeds ends v c.plain-judgement.result.reason)
+    subst (λ (v : VerdictKind). IsShownFor p ends v c.plain-judgement.result.reason)
     (sym c.plain-judgement.ensures.kind)
-    (subst (λ (w : Reason). IsShownFor image required seeds ends decided.0 w)
-    (sym c.plain-judgement.ensures.reason) (c.decided_by-decided.ensures.shown image required seeds))
+    (subst (λ (w : Reason). IsShownFor p ends decided.0 w)
+    (sym c.plain-judgement.ensures.reason) (c.decided_by-decided.ensures.shown p search))
+
+pub returns-clause-left : goal.returns-clause-left
+returns-clause-left c = λ p search kind.
+    c.decided_by-decided.ensures.left p search (sym c.plain-judgement.ensures.kind ∙ kind)

@@ -1,0 +1,3 @@
+-- Definitions of judgements that callers name, passed on.
+pub use Rattle.judgements.specs.Shown
+pub use Rattle.judgements.specs.Verdicts
