@@ -23,7 +23,8 @@ ROOTS = (
     "whole_runs first_difference",
     # seeds, and verdicts
     "seed_outcomes outcomes_of", "seed_verdicts first_flaw", "seed_verdicts first_unshown_by_seeds", "schedule_verdicts is_right",
-    "space_ends space_ends", "program_searches explore_program", "judgements judged_submission")
+    "space_ends space_ends", "program_searches explore_program", "judgements judged_submission",
+    "submission_rows row_on")
 HEADLINE = ("mta_engines one_machine", "memory_lock threaded")
 
 INTRODUCTION = """\

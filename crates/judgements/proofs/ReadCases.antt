@@ -9,7 +9,7 @@ use Rattle.case_cells.specs.NamedWords.{name_lacking}
 use Rattle.judgements.specs.Cases.{program_by, names_by, said_by, seeds_of, SpeaksOfGivenIn}
 use Rattle.judgements.specs.Right.{IsRightAsAsked, IsWorkDone}
 use Rattle.judgements.specs.Shown.{JudgedAs, judged_as, IsShownBy, IsCaseJudged, IsCaseKnown, IsReadCase}
-use Rattle.judgements.specs.Shown.{IsUnjudged, IsNotGiven}
+use Rattle.judgements.specs.Shown.{IsUnjudged, IsNotGivenBy}
 use Rattle.judgements.specs.Shown.{kind_without_name}
 use Rattle.judgements.specs.Statuses.{IsAsBadAsKind}
 use Rattle.judgements.specs.declared.cases.Case.{Case}
@@ -26,15 +26,17 @@ record IsKnown (asked : AskedJudging) (text : List ℕ) (case : Case) (r : Requi
   right : j.kind ≡ verdict.Right → IsRightAsAsked asked.explored (seeds_of asked) i r
   kept : j.kind ≡ verdict.Right → IsTrue (are_rules_kept i r.rules.items)
   work : j.kind ≡ verdict.Right → IsWorkDone i r (seeds_of asked)
-  shown : IsShownBy (judged_as asked i r) j ⊎ IsNotGiven j
+  shown : IsShownBy (judged_as asked i r) j ⊎ IsNotGivenBy i text case r j
 
 -- what shows it is what shows what is known by a case
 shown_by : (asked : AskedJudging) (image : ImageValue) (text : List ℕ) (case : Case) (r : Requirements) (j : CaseJudgement)
     → said_by case (program_by image text case) text ≡ Ok (requirements_seen r)
-    → IsShownBy (judged_as asked (program_by image text case) r) j ⊎ IsNotGiven j
+    → IsShownBy (judged_as asked (program_by image text case) r) j
+    ⊎ IsNotGivenBy (program_by image text case) text case r j
     → IsReadCase asked image text case j ⊎ IsUnjudged asked image text case j
 shown_by asked image text case r j said (inl shown) = inl (record { required = r; said = said; shown = shown })
-shown_by asked image text case r j said (inr not_given) = inr (inr (inr not_given))
+shown_by asked image text case r j said (inr other) =
+    inr (inr (inr (record { required = r; said = said; given = other })))
 
 by_program : (asked : AskedJudging) (image : ImageValue) (text : List ℕ) (case : Case) (r : Requirements)
     (j : CaseJudgement) → said_by case (program_by image text case) text ≡ Ok (requirements_seen r)
@@ -62,7 +64,7 @@ pub read_case : {E : Type 0} (asked : AskedJudging) (image : ImageValue) (text :
     → IfOk result (λ (j : CaseJudgement). j.kind ≡ verdict.Right → IsRightAsAsked asked.explored (seeds_of asked) i r)
     → IfOk result (λ (j : CaseJudgement). j.kind ≡ verdict.Right → IsTrue (are_rules_kept i r.rules.items))
     → IfOk result (λ (j : CaseJudgement). j.kind ≡ verdict.Right → IsWorkDone i r (seeds_of asked))
-    → IfOk result (λ (j : CaseJudgement). IsShownBy (judged_as asked i r) j ⊎ IsNotGiven j)
+    → IfOk result (λ (j : CaseJudgement). IsShownBy (judged_as asked i r) j ⊎ IsNotGivenBy i text case r j)
     → IfOk result (λ (j : CaseJudgement). IsCaseKnown asked image text case j)
 read_case asked image text case i r (Err e) same said given right kept work shown = tt
 read_case asked image text case i r (Ok j) same said given right kept work shown =
@@ -103,10 +105,15 @@ unjudged_alike asked image text case j k kind why (inr (inl lacking)) = inr (inl
   first = lacking.first;
   kind = kind ∙ lacking.kind;
 }))
-unjudged_alike asked image text case j k kind why (inr (inr not_given)) = inr (inr (record {
-  number = not_given.number;
-  reason = why ∙ not_given.reason;
-  kind = kind ∙ not_given.kind;
+unjudged_alike asked image text case j k kind why (inr (inr lines)) = inr (inr (record {
+  required = lines.required;
+  said = lines.said;
+  given = record {
+    number = lines.given.number;
+    reason = why ∙ lines.given.reason;
+    kind = kind ∙ lines.given.kind;
+    other = lines.given.other;
+  };
 }))
 
 known_alike : (asked : AskedJudging) (image : ImageValue) (text : List ℕ) (case : Case) (j k : CaseJudgement)

@@ -1,10 +1,12 @@
 -- What a case makes of a submission, and what it requires of it.
-use Rattle.std.specs.Prelude.{◌≡◌, ℕ, ⊤, ◌==◌, if◌then◌else◌, List, [], ◌∷◌, length, Option, Some, None, unwrap_or, Ok, IsNone}
+use Rattle.std.specs.Prelude.{◌≡◌, ℕ, ⊤, ◌==◌, if◌then◌else◌, List, [], ◌∷◌, length, Option, Some, None, unwrap_or, Ok, Err, IsNone}
 use Rattle.image_file.specs.ImageValue.{ImageValue}
 use Rattle.source_places.specs.DataNames.{DataNameValue, data_names}
 use Rattle.source_places.specs.SourceLabels.{labels_of}
 use Rattle.expectation_files.specs.Addresses.{Names}
 use Rattle.expectation_files.specs.Files.{FileSaid, file_said}
+use Rattle.expectation_files.specs.declared.faults.FileFault.TheVariants as file
+use Rattle.expectation_files.specs.declared.faults.LineFault.{LineFault}
 use Rattle.expectation_files.specs.Seen.{requirements_seen}
 use Rattle.expectation_files.specs.declared.requirements.Requirements.{Requirements}
 use Rattle.case_cells.specs.NamedWords.{places_by_name, given_cells}
@@ -85,6 +87,22 @@ pub record SpeaksOfGiven (image : ImageValue) (text : List ℕ) (case : Case) (c
 abbrev pub SpeaksOfGivenIn : ImageValue → List ℕ → Case → Option ImageValue → Requirements → Type 0
 SpeaksOfGivenIn image text case None required = ⊤
 SpeaksOfGivenIn image text case (Some cells) required = SpeaksOfGiven image text case cells required
+
+-- A line of a case speaks of a word that its cells do not give, or that is another one in the submission.
+pub data SpeaksOfOthers (image : ImageValue) (text : List ℕ) (case : Case) (cells : ImageValue) (required : Requirements)
+    : Type 0 where
+  -- by the case's own words the line says nothing
+  by_line : (number : ℕ) (fault : LineFault) → said_in_case case image text ≡ Err (file.Line number fault)
+      → SpeaksOfOthers image text case cells required
+  -- the word is not at its place, or is not given
+  by_word : (in_case : Requirements) (place : ℕ) → said_in_case case image text ≡ Ok (requirements_seen in_case)
+      → first_other (places_or (places_by_name case.given.items text) (length cells.cells)) 0 (spoken_words in_case)
+      (spoken_words required) ≡ Some place → SpeaksOfOthers image text case cells required
+
+-- the same of a case, which has cells
+abbrev pub SpeaksOfOthersIn : ImageValue → List ℕ → Case → Option ImageValue → Requirements → Type 0
+SpeaksOfOthersIn image text case None required = ⊥
+SpeaksOfOthersIn image text case (Some cells) required = SpeaksOfOthers image text case cells required
 
 -- the seeds that are tried
 abbrev pub seeds_of : AskedJudging → Seeds

@@ -29,7 +29,7 @@ use Rattle.seed_outcomes.specs.SpaceEndsTypes.SpaceEnd.{SpaceEnd}
 use Rattle.seed_work.specs.SeedWork.{IsWorkJudged}
 use Rattle.seed_work.specs.declared.missed_work.MissedWork.{MissedWork}
 use Rattle.case_cells.specs.NamedWords.{name_lacking}
-use Rattle.judgements.specs.Cases.{program_by, said_by, seeds_of}
+use Rattle.judgements.specs.Cases.{program_by, said_by, seeds_of, SpeaksOfOthersIn}
 use Rattle.judgements.specs.Flaws.{kind_of_run, kind_of_work, kind_of_end, ShowNothing, ShowsAt}
 use Rattle.judgements.specs.Right.{IsRightCase}
 use Rattle.judgements.specs.Statuses.{IsAsBadAsKind}
@@ -216,16 +216,24 @@ pub record IsLacking (asked : AskedJudging) (text : List ℕ) (case : Case) (j :
   pub kind : j.kind ≡ kind_without_name asked.needs_names
 
 -- A line of the case speaks of a word that the case does not give, or that stands elsewhere in the submission: nothing is
--- known against the submission.
-pub record IsNotGiven (j : CaseJudgement) : Type 0 where
+-- known against the program that the case makes of it.
+pub record IsNotGivenBy (image : ImageValue) (text : List ℕ) (case : Case) (required : Requirements) (j : CaseJudgement)
+    : Type 0 where
   pub number : ℕ
   pub reason : j.reason ≡ reason.NotGiven number
   pub kind : j.kind ≡ verdict.NotJudged
+  pub other : SpeaksOfOthersIn image text case case.cells required
+
+-- The same of a submission of this image.
+pub record IsNotGiven (image : ImageValue) (text : List ℕ) (case : Case) (j : CaseJudgement) : Type 0 where
+  pub required : Requirements
+  pub said : said_by case (program_by image text case) text ≡ Ok (requirements_seen required)
+  pub given : IsNotGivenBy (program_by image text case) text case required j
 
 -- why a submission is not judged by a case
 abbrev pub IsUnjudged : AskedJudging → ImageValue → List ℕ → Case → CaseJudgement → Type 0
 IsUnjudged asked image text case j =
-    IsAbsent image text case j ⊎ (IsLacking asked text case j ⊎ IsNotGiven j)
+    IsAbsent image text case j ⊎ (IsLacking asked text case j ⊎ IsNotGiven image text case j)
 
 -- What is known of a submission by a case: right is so, and what is not right is shown.
 pub record IsCaseKnown (asked : AskedJudging) (image : ImageValue) (text : List ℕ) (case : Case) (j : CaseJudgement)

@@ -6,7 +6,7 @@ ghost use Rattle.program_rules.specs.Keeping.{is_kept};
 ghost use Rattle.expectation_files.specs.Judged.{are_rules_kept};
 ghost use Rattle.judgements.specs.Cases.{seeds_of, SpeaksOfGivenIn};
 ghost use Rattle.judgements.specs.Right.{IsRightAsAsked, IsWorkDone};
-ghost use Rattle.judgements.specs.Shown.{IsCaseJudged, IsCaseKnown, IsShownBy, IsNotGiven, judged_as, kind_without_name};
+ghost use Rattle.judgements.specs.Shown.{IsCaseJudged, IsCaseKnown, IsShownBy, IsNotGivenBy, judged_as, kind_without_name};
 
 use crate::by_schedules::{JudgedProgram, judged_by_schedules};
 use crate::by_seeds::judged_by_seeds;
@@ -103,7 +103,8 @@ fn judged_by_lines<X: Threads + Sync, C: Clock, E: Write>(
     ensures work { IfOk result (λ j. j.kind ≡ VerdictKind.Right
         → IsWorkDone judged.entry.image.now judged.entry.required.now (seeds_of asked)) }
     ensures shown { IfOk result (λ j.
-        IsShownBy (judged_as asked judged.entry.image.now judged.entry.required.now) j ⊎ IsNotGiven j) }
+        IsShownBy (judged_as asked judged.entry.image.now judged.entry.required.now) j
+        ⊎ IsNotGivenBy judged.entry.image.now text.entry.now case.entry.now judged.entry.required.now j) }
 {
     if let Some(line) = line_not_given(alloc, case, judged.image, text, judged.required)? {
         let reason = Reason::NotGiven { line };

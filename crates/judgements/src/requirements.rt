@@ -1,13 +1,13 @@
 //! What a case requires of a submission.
 
-ghost use Rattle.std.specs.Prelude.{◌≡◌, Ok, Err, IfOk, IfErr, IfNone, length};
+ghost use Rattle.std.specs.Prelude.{◌≡◌, Ok, Err, IfOk, IfErr, IfNone, OnSome, length};
 ghost use Rattle.expectation_files.specs.Seen.{requirements_seen};
 ghost use Rattle.expectation_files.specs.Files.{file_said};
 ghost use Rattle.expectation_files.specs.Addresses.{Names};
 ghost use Rattle.expectation_files.specs.declared.faults.FileFault.TheVariants as file;
 ghost use Rattle.source_places.specs.SourcePlaces.{data_names_seen, labels_seen};
 ghost use Rattle.case_cells.specs.NamedWords.{places_seen};
-ghost use Rattle.judgements.specs.Cases.{said_by, said_in_submission, said_in_case, places_or, SpeaksOfGivenIn};
+ghost use Rattle.judgements.specs.Cases.{said_by, said_in_submission, said_in_case, places_or, SpeaksOfGivenIn, SpeaksOfOthersIn};
 
 use crate::cases::Case;
 use crate::judge_faults::CaseFault;
@@ -79,8 +79,10 @@ pub(crate) fn line_not_given(
     text: &[u8],
     required: &Requirements,
 ) -> Result<Option<usize>, CaseFault>
-    ensures { IfOk result (λ line. IfNone line
+    ensures given { IfOk result (λ line. IfNone line
         (SpeaksOfGivenIn image.now text.now case.now case.now.cells required.now)) }
+    ensures other { IfOk result (λ line. OnSome line
+        (SpeaksOfOthersIn image.now text.now case.now case.now.cells required.now)) }
 {
     let Some(cells) = &case.cells else {
         return Ok(None);

@@ -5,6 +5,7 @@ use search_texts::is_another_line;
 use std::alloc::{AllocError, Global};
 
 /// What is expected of ends, and what is claimed, as it is written: first the lines on ends, in the order of the expectations.
+/// Lines about who does the work are not among them.
 pub(crate) fn expected_texts(
     alloc: Global,
     required: &Requirements,
@@ -16,24 +17,22 @@ pub(crate) fn expected_texts(
         texts.push(String::from_str(alloc, NEVER_BUSY)?)?;
     }
     push_words(alloc, &mut texts, required.rule_lines())?;
-    push_unjudged(alloc, &mut texts, required.work_lines())?;
     Ok(texts)
 }
 
-/// Adds the words of lines about who does the work, each line once: the page does not judge them.
-fn push_unjudged(
+/// The lines about who does the work, as they are written, each once: the page does not judge them.
+pub(crate) fn unjudged_texts(
     alloc: Global,
-    texts: &mut Vec<String>,
-    lines: &[WrittenLine],
-) -> Result<(), AllocError> {
+    required: &Requirements,
+) -> Result<Vec<String>, AllocError> {
+    let lines = required.work_lines();
+    let mut texts = Vec::new(alloc);
     for (place, line) in lines.iter().enumerate() {
-        if !is_another_line(lines, place) {
-            continue;
+        if is_another_line(lines, place) {
+            texts.push(String::from_str(alloc, &line.words)?)?;
         }
-        let words = line.words.as_str();
-        texts.push(format!(in alloc; "{words} (not judged on this page)")?)?;
     }
-    Ok(())
+    Ok(texts)
 }
 
 /// Adds the words of lines.

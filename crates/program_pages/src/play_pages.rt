@@ -1,6 +1,6 @@
 //! The page on which the reader is the scheduler of a program.
 
-use crate::expected_texts::expected_texts;
+use crate::expected_texts::{expected_texts, unjudged_texts};
 use crate::played_programs::{PageChoices, PlayedProgram};
 use image_machines::by_room;
 use lab_requests::MOST_PLAYED;
@@ -124,6 +124,7 @@ fn graph_on<const S: usize>(
     } = judged;
     let required = played.required;
     let expected = expected_texts(alloc, required)?;
+    let unjudged = unjudged_texts(alloc, required)?;
     let notation = Notation {
         names: played.names,
         style: NumberStyle::Decimal,
@@ -137,6 +138,7 @@ fn graph_on<const S: usize>(
     let asked = GraphNames {
         program: played.called,
         expected: &expected,
+        unjudged: &unjudged,
         criteria,
         goal,
         opened: played.opened,

@@ -25,6 +25,8 @@ pub struct GraphNames<'a> {
     pub program: &'a str,
     /// What each end has to be and what is claimed, as it is written.
     pub expected: &'a [String],
+    /// The lines of the expectation that the page does not judge, as they are written.
+    pub unjudged: &'a [String],
     /// What decides besides the ends whether they are right.
     pub criteria: EndCriteria,
     /// The place of the end that is the reader's first goal.
@@ -107,6 +109,7 @@ fn put_ends(
     let begin = space.begin();
     graph.put("ends", ends_json(alloc, ends, begin.len(), judging));
     graph.put("expected", texts_json(alloc, asked.expected));
+    graph.put("unjudged", texts_json(alloc, asked.unjudged));
     graph.put("begin", schedule_text(alloc, begin));
     graph.put("goal", Ok(goal_json(asked.goal)));
 }

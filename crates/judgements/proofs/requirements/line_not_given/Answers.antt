@@ -6,8 +6,8 @@ use Rattle.case_cells.specs.SpokenWords.{spoken_words, first_other}
 use Rattle.judgements.specs.Cases.{places_or, SpeaksOfGivenIn}
 use Rattle.judgements.proofs.requirements.line_not_given.Goals as goal
 
-pub returns : goal.returns
-returns c =
+pub returns-clause-given : goal.returns-clause-given
+returns-clause-given c =
     let case = c.args.case.now in
     let text = c.args.text.now in
     let required = c.args.required.now in
