@@ -36,6 +36,9 @@ LEADS = {
                     "No schedule that begins so ends right (expected: \u201cword 0 2\u201d)."),
     "begun_right": (two(ADDS, ADDS), "word 0 2", "0 0 4\n", "that begins so",
                     "Every schedule that begins so ends right: you can\u2019t break it."),
+    # the given steps break the claim, and no state of the page does
+    "begun_broken": (two(ADDS, ADDS), "never word 0 is 1", "0 0 4\n1 0 3\n", "that begins so",
+                     "No schedule that begins so ends right (expected: \u201cnever word 0 is 1\u201d)."),
     "begun_polls": (two(POLLS, STORES), "word 0 1", "0 0 1\n", "that begins so",
                     "Every schedule that begins so and ends, ends right."),
     "begun_plain": (two(STORES, STORES), "", "0 0 1\n", "that begins so",

@@ -400,6 +400,8 @@ def limits():
         yield "so many messages", (501, full[:500]), (len(found), found[:500])
         yield "and one that counts the others", (f"{len(full) - 500} more messages: mta_lab check says all", 0), (
             found[500]["message"], found[500]["range"]["start"]["line"])
+    with client(" .entry 0\n .data 0\n" + " QUITE\n" * 501) as session:
+        yield "and one that counts one", "1 more message: mta_lab check says all", session.diagnostics()[-1]["message"]
     with client() as session:
         for number in range(101):
             session.opens(" QUITE\n", uri=f"file:///{number}.mta")

@@ -127,6 +127,7 @@ def pair_as_compared(source, one, other, *options):
     return json.dumps(wanted, sort_keys=True), json.dumps(pair, sort_keys=True)
 
 
+BOUNDED = ("grading/submissions/racing.asm", "--plain")
 # searches, each by the words behind `explore`, with the file of what is wished where it has one
 SEARCHES = {
     "lock.asm": (("lock.asm",), None),
@@ -136,7 +137,14 @@ SEARCHES = {
     "a stream that loops alone": (("future.asm",), b"never busy\n"),
     "shown by no state": (("grading/submissions/racing.asm",), b"some word 8 is 3\n"),
     "a rule of programs": (("grading/submissions/racing.asm",), b"some word 8 is 3\nrequire FADD\n"),
+    "not decided: who does the work": (("grading/submissions/racing.asm",), b"finished\neach of 0.0 1.0 writes word 8\n"),
+    # (the search has 40 states)
+    "not decided: a claim, by a bound": ((*BOUNDED, "--states", "39"), b"finished\nsome word 8 is 3\n"),
+    "not decided: never busy, by a bound": ((*BOUNDED, "--states", "39"), b"finished\nnever busy\n"),
+    "shown, with a bound": ((*BOUNDED, "--states", "39"), b"finished\nsome word 8 is 1\n"),
 }
+# the lines that a search that came to a bound does not decide, where it has not shown them
+OPEN = ("some word 8 is 3", "never busy")
 
 
 @checks.others("pages/ends")
@@ -150,11 +158,12 @@ def pages_of_ends(words, wished):
     with tempfile.TemporaryDirectory(prefix="mta-case-") as folder, tool.made_files(wished=wished or b"") as paths:
         made = os.path.join(folder, "new")
         words = [*words, *(["--expect", paths["wished"]] if wished else [])]
-        _, *told = map(json.loads, lab("explore", *words, "--pages", made, "--json").out.splitlines())
+        search, *told = map(json.loads, lab("explore", *words, "--pages", made, "--json").out.splitlines())
         got = {name: run_in(tool.read(os.path.join(made, name)).decode()) for name in sorted(os.listdir(made))}
     ends = [end for end in told if end["object"] == "search_end"]
-    whole = line_of_the_whole(told)
-    wanted = {f"{number}_{end['end']}.html": judged_as(end, wished, whole) for number, end in enumerate(ends, start=1)}
+    whole, is_judged = line_of_the_whole(told), bool(wished) and not leaves_a_line(search, told, wished)
+    wanted = {f"{number}_{end['end']}.html": judged_as(end, wished, whole, is_judged)
+              for number, end in enumerate(ends, start=1)}
     return wanted, {name: (steps_in(run), run.get("expected"), run.get("missed")) for name, run in got.items()}
 
 
@@ -218,11 +227,19 @@ def line_of_the_whole(told):
     return lines[0] if lines else None
 
 
-def judged_as(end, wished, whole):
-    """The steps to an end; whether it is as expected, and the line that says that it is not."""
+def leaves_a_line(search, told, wished):
+    """Whether the search does not decide a line that is required of the program as a whole."""
+    is_open = any(line in OPEN for line in wished.decode().splitlines())
+    return any(value["object"] == "undecided" for value in told) or (is_open and not search["complete"])
+
+
+def judged_as(end, wished, whole, is_judged):
+    """The steps to an end; whether it is as expected, and the line that says that it is not. One that is as expected is not
+    judged where a line is left."""
     steps = [f"{p}.{s}" for p, s, count in end["schedule"] for _ in range(count)]
     line = end["missed"] or end["claim"] or (whole if end["expected"] else None)
-    return steps, end["expected"] and whole is None if wished else None, line["text"] if line else None
+    expected = end["expected"] and whole is None
+    return steps, expected if wished and (is_judged or not expected) else None, line["text"] if line else None
 
 
 def steps_in(run):

@@ -7,6 +7,7 @@ import tempfile
 import xml.etree.ElementTree
 
 import checks
+import tool
 from of_grades import RIGHT, WRONG, made
 from of_lab import lab
 
@@ -21,6 +22,17 @@ HIDDEN = [*map(chr, range(0x80, 0xA0)), "\u2028", "\u2029", *map(chr, range(0x20
 # a word that changes once; its comment follows
 CHANGED = b" .entry go\n .data 0 ; %s\ngo: LIT r1, 1\n STORE.N r1, r0, 0\n QUIT\n"
 CHANGED_TWO = b" .entry go\n .data 0 ; %s\n .data 0 ; %s\ngo: LIT r1, 1\n STORE.N r1, r0, 0\n STORE.N r1, r0, 1\n QUIT\n"
+# 300 words that change, each with a name of its own, and the first of them as a line lists them: the 200th character is in
+# the seventh
+MANY = " .entry go\n" + "".join(f"w{n:03}_of_a_long_name: .data 0\n" for n in range(300)) + """go: LIT r1, 1
+ LIT r3, 300
+more: STORE.N r1, r2, 0
+ ADD r2, r2, 8
+ SUB.T r3, r3, 1
+ SKIP NE, 0, more
+ QUIT
+"""
+LISTED = ", ".join(f"[{8 * n}] w{n:03}_of_a_long_name 0 -> 1" for n in range(7)) + ", .."
 LOOP = b" .entry go\n .data 0 ; %s\ngo: FADD.N r1, r0, 0\n SKIP ALWAYS, 0, go\n"
 # how many characters of quoted texts a line shows
 MOST = 200
@@ -207,6 +219,27 @@ def long_comments():
         made(folder, "huge.asm", CHANGED % (b"c" * 10_500_000))
         ended = lab(*call, "--format", "junit", "huge.asm", folder=folder)
         yield "junit", (3, True), (ended.status, len(ended.out) < 2_000)
+
+
+@checks.others("grade/long_lists")
+def long_lists():
+    """A cell shows the first of the words that a run changes, whatever their names are, in each format that is a table."""
+    with tempfile.TemporaryDirectory(prefix="mta-case-") as folder:
+        made(folder, "w.expect", b"word 0 2\n")
+        made(folder, "many.asm", MANY.encode())
+        call = ("grade", "--expect", "w.expect", "--seeds", "1")
+        why = f"seed 0: not word 0 2: {LISTED}"
+        yield "text", f"{HEAD}many.asm\twrong\t{why}\n".encode(), lab(*call, "many.asm", folder=folder).out
+        ended = lab(*call, "--format", "tsv", "many.asm", folder=folder)
+        yield "tsv", LISTED, ended.out.decode().rstrip("\n").rpartition("\t")[2]
+        ended = lab(*call, "--all", "many.asm", folder=folder)
+        yield "all ends", f"seed 0   {LISTED}   NOT as expected: word 0 2", ended.out.decode().strip().rpartition("finished  ")[2]
+        for form in ("junit", "gradescope", "moodle"):
+            printed = lab(*call, "--format", form, "many.asm", folder=folder).out.decode()
+            yield form, (True, False), (LISTED.split(", ")[6].split(" ")[1] in printed, "w007" in printed)
+        lab(*call, "--feedback", "back", "many.asm", folder=folder)
+        yield "a text for a student", (True, False), (
+            LISTED in (text := tool.read(os.path.join(folder, "back/many.txt")).decode()), "w007" in text)
 
 
 @checks.others("lab/hidden_characters")

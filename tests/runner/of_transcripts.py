@@ -5,6 +5,7 @@ import os
 import tempfile
 
 import checks
+import plurals
 import table
 import tool
 import transcripts
@@ -30,6 +31,8 @@ def judged(file):
     with tempfile.TemporaryDirectory(prefix="mta-case-") as folder:
         ended = call_of(case, folder)
         left = [(part.text, tool.read(os.path.join(folder, part.name))) for part in case.of("= leaves")]
+    for _, got in left:
+        plurals.SEEN.text(case.words, got or b"")
     (command,), (status,) = case.of("$"), case.of("= status")
     errors = [part.text for part in case.of("= standard error")] or [transcripts.Text([], status.number)]
     for text, got in [(command.text, ended.out), (errors[0], ended.err), *left]:

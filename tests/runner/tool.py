@@ -6,6 +6,7 @@ import subprocess
 import sys
 import tempfile
 
+import plurals
 import schemas
 import table
 
@@ -33,10 +34,14 @@ class Ended:
 
 
 def call(*words, given=b"", folder=None, program=PROGRAM):
-    """Calls a program with these words and this standard input. The objects that it prints are kept for their schemas."""
+    """Calls a program with these words and this standard input. The objects that it prints are kept for their schemas, and
+    the words that the lab counts."""
     ended = subprocess.run([program, *words], input=given, capture_output=True, cwd=folder, timeout=PATIENCE,
                            check=False)
     schemas.SEEN.call(words, ended.stdout)
+    if program == LAB:
+        plurals.SEEN.text(words, ended.stdout)
+        plurals.SEEN.text(words, ended.stderr)
     return Ended(ended.returncode, ended.stdout, ended.stderr)
 
 

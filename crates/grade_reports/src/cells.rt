@@ -1,7 +1,10 @@
 //! Cells of tables that spreadsheets read.
 
-use plain_text::push_plain;
+use plain_text::{front_of, push_plain};
 use std::alloc::AllocError;
+
+/// How many characters of a list a cell shows, but for the rest of an item.
+const MOST_LISTED: usize = 200;
 
 /// Whether a spreadsheet takes a cell with this text for a formula.
 fn is_formula(text: &str) -> bool {
@@ -31,4 +34,28 @@ pub(crate) fn push_csv_cell(out: &mut String, text: &str) -> Result<(), AllocErr
         out.push(letter)?;
     }
     out.push_str("\"")
+}
+
+/// Adds a list of items with commas between them, such as the words that a run changes: of a long one the items up to that
+/// which the 200th character is in.
+pub(crate) fn push_list(out: &mut String, list: &str) -> Result<(), AllocError> {
+    let front = front_of_list(list);
+    out.push_str(front)?;
+    if front.len() < list.len() {
+        out.push_str(", ..")?;
+    }
+    Ok(())
+}
+
+/// The items of a list that a cell shows.
+fn front_of_list(list: &str) -> &str {
+    let front = front_of(list, MOST_LISTED);
+    let rest = list.get(front.len()..).unwrap_or("");
+    match rest.split_once(", ") {
+        Some((item, _)) => {
+            let end = front.len().saturating_add(item.len());
+            list.get(..end).unwrap_or(front)
+        }
+        None => list,
+    }
 }

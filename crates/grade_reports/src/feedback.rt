@@ -7,7 +7,7 @@ use crate::rows::{CaseRow, GradeRow};
 use crate::student_rows::row_for_student;
 use judgements::{Case, Witness};
 use lab_requests::Undecided;
-use plain_text::{file_name, plain, push_plain};
+use plain_text::{file_name, plain, plural, push_plain};
 use std::alloc::{AllocError, Global};
 
 /// How many steps a run of `view` by a seed has at most, where nothing else is said.
@@ -42,7 +42,8 @@ pub fn feedback_of(
     let word = row.kind.word();
     let earned = earned_points(file.undecided, &row.cases);
     let points = file.points;
-    write!(out, ": {word}, {earned} of {points} points\n\n")?;
+    let some_points = plural(points as usize);
+    write!(out, ": {word}, {earned} of {points} point{some_points}\n\n")?;
     push_verdicts(alloc, &mut out, file.undecided, row)?;
     if row.cases.is_empty() {
         out.push_str("All messages: mta_lab check ")?;

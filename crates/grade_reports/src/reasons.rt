@@ -1,5 +1,6 @@
 //! Why submissions are what they are said to be, in words.
 
+use crate::cells::push_list;
 use crate::rows::{CaseRow, GradeRow, ReportLine};
 use judgements::{Known, VerdictKind, Witness};
 use plain_text::{plain, plural};
@@ -115,10 +116,30 @@ fn push_worlds(why: &mut String, known: Known) -> Result<(), AllocError> {
     }
 }
 
+/// Adds the words of a verdict of this kind: why nothing ran, or a list of what a run leaves.
+pub(crate) fn push_words(
+    out: &mut String,
+    kind: VerdictKind,
+    words: &str,
+) -> Result<(), AllocError> {
+    match kind {
+        VerdictKind::NotRead | VerdictKind::SourceFault | VerdictKind::NotJudged => {
+            out.push_str(words)
+        }
+        VerdictKind::Right
+        | VerdictKind::NotDecided
+        | VerdictKind::Deadlock
+        | VerdictKind::Trap
+        | VerdictKind::Wrong
+        | VerdictKind::RanOutOfSteps
+        | VerdictKind::Spins => push_list(out, words),
+    }
+}
+
 /// Adds who waits at a deadlock, and then the run that leads there, the line that it misses, and a finding.
 fn push_waiting(alloc: Global, why: &mut String, shown: Shown<'_>) -> Result<(), AllocError> {
     if !shown.words.is_empty() {
-        why.push_str(shown.words)?;
+        push_list(why, shown.words)?;
         why.push_str("; ")?;
     }
     push_shown(alloc, why, Shown { words: "", ..shown })
@@ -147,7 +168,7 @@ fn push_shown(alloc: Global, why: &mut String, shown: Shown<'_>) -> Result<(), A
     }
     if !shown.words.is_empty() {
         why.push_str(between)?;
-        why.push_str(shown.words)?;
+        push_list(why, shown.words)?;
     }
     if !shown.finding.is_empty() {
         why.push_str("; ")?;

@@ -1,6 +1,6 @@
 //! Rows in words.
 
-use crate::cells::push_cell;
+use crate::cells::{push_cell, push_list};
 use crate::reasons::{push_witness, why_of};
 use crate::reports::ReportedRow;
 use crate::rows::CountedEnd;
@@ -48,7 +48,9 @@ fn push_end(
     push_witness(alloc, out, &end.witness)?;
     if !end.text.is_empty() {
         out.push_str("   ")?;
-        push_plain(out, &end.text)?;
+        let mut text = String::new(alloc);
+        push_list(&mut text, &end.text)?;
+        push_plain(out, &text)?;
     }
     if let Some(missed) = &end.missed {
         out.push_str("   NOT as expected: ")?;

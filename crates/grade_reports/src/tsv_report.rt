@@ -1,7 +1,7 @@
 //! Verdicts as fields that are apart by tabs.
 
 use crate::cells::push_cell;
-use crate::reasons::push_turns;
+use crate::reasons::{push_turns, push_words};
 use crate::reports::ReportedRow;
 use judgements::Witness;
 use plain_text::push_plain;
@@ -39,7 +39,9 @@ pub(crate) fn push_tsv(
         None => out.push_str("\t\t")?,
     }
     out.push_str("\t")?;
-    push_plain(out, &row.words)?;
+    let mut words = String::new(alloc);
+    push_words(&mut words, row.kind, &row.words)?;
+    push_plain(out, &words)?;
     out.push_str("\n")
 }
 

@@ -108,7 +108,7 @@ impl FoundProgram<'_> {
         if required.is_nothing() {
             RunVerdict::NotJudged
         } else if end.is_expected() && self.unkept_line().is_none() {
-            RunVerdict::Expected
+            self.verdict_of_expected()
         } else if missed.is_empty() {
             RunVerdict::NotExpected { missed: None }
         } else {
@@ -116,6 +116,24 @@ impl FoundProgram<'_> {
                 missed: Some(missed),
             }
         }
+    }
+
+    /// How an end was judged that is as expected: not, if a line is left that the search does not decide.
+    fn verdict_of_expected(self) -> RunVerdict<'static> {
+        if self.leaves_a_line() {
+            RunVerdict::NotJudged
+        } else {
+            RunVerdict::Expected
+        }
+    }
+
+    /// Whether the search does not decide a line that is required of the program as a whole: one about who does the work; and,
+    /// if it came to a bound, a claim that has to hold of one state at least and that none shows, or that no stream loops
+    /// alone.
+    fn leaves_a_line(self) -> bool {
+        let found = self.found;
+        let is_open = found.unshown.is_some() || self.required.never_busy().is_some();
+        !self.required.work().is_empty() || (!found.is_complete && is_open)
     }
 
     /// The line that an end does not meet: a claim that is broken, an expectation, or one of the program as a whole; empty

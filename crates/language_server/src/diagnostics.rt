@@ -5,6 +5,7 @@ use crate::line_starts::DocumentLine;
 use crate::ranges::{put_location, put_range};
 use editor_wire::Json;
 use fault_messages::{Message, Severity};
+use plain_text::plural;
 use source_cures::{CureFinder, Related};
 use std::alloc::{AllocError, Global};
 
@@ -28,7 +29,10 @@ pub(crate) fn diagnostics_of(
     }
     let more = messages.len().saturating_sub(MOST_SENT);
     if more > 0 {
-        let words = format!(in alloc; "{more} more messages: mta_lab check says all")?;
+        let some_messages = plural(more);
+        let words = format!(in alloc;
+            "{more} more message{some_messages}: mta_lab check says all"
+        )?;
         put_warning(&mut json, document.line(0), words.as_str());
     }
     json.close_list();

@@ -5,6 +5,7 @@ use crate::played_programs::{PageChoices, PlayedProgram};
 use image_machines::by_room;
 use lab_requests::MOST_PLAYED;
 use lab_texts::{Notation, NumberStyle};
+use schedule_page::ends_of_space::SpaceEnd;
 use schedule_page::goals::{EndCriteria, EndGoal};
 use schedule_page::{GraphNames, PageEnds, graph_json, page_of_graph};
 use search_texts::ends_in_words::words_of_ends;
@@ -59,9 +60,9 @@ pub fn page_of_schedules<C: Clock, E: Write>(
     if !found.is_complete {
         return not_complete(found.bound);
     }
+    let criteria = criteria_of(played, &found);
     // (a claim that only the given beginning breaks has no state on the page)
     found.ends.retain(|end| !end.places.is_empty());
-    let criteria = EndCriteria::of(played.required, found.broken_rule, found.unshown);
     let goal = match choices.goal {
         Some(goal) => match goal.place(&found.ends, criteria) {
             Some(place) => Some(place),
@@ -75,6 +76,26 @@ pub fn page_of_schedules<C: Clock, E: Write>(
         goal,
     };
     Ok(PlayPage::Written(page_text(alloc, played, judged)?))
+}
+
+/// What decides besides the ends whether they are right. A claim that the given beginning breaks is broken by every schedule
+/// that begins so: then no end is right.
+fn criteria_of(played: &PlayedProgram<'_, '_>, found: &Explored<'_>) -> EndCriteria {
+    let criteria = EndCriteria::of(played.required, found.broken_rule, found.unshown);
+    EndCriteria {
+        is_judged: criteria.is_judged,
+        keeps_rules: criteria.keeps_rules && !is_broken_before(&found.ends),
+    }
+}
+
+/// Whether a claim is broken on the way through the steps that all schedules begin with.
+fn is_broken_before(ends: &[SpaceEnd]) -> bool {
+    for end in ends {
+        if end.before > 0 {
+            return true;
+        }
+    }
+    false
 }
 
 /// What comes of a page where the search ended at a bound: it is only one of states.
