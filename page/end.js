@@ -77,7 +77,7 @@ function titleOfEnd() {
   if (begunAtEnd().length === 0 && quit.length) {
     return [found ? "bad" : "finished", `All who began have quit after ${n}${found}`];
   }
-  return [found ? "bad" : "steps", `The schedule ends after ${n}, before the program does${found}`];
+  return [found ? "bad" : "steps", `The schedule ends after ${n}, before the program does${trappedText()}${found}`];
 }
 
 const has = (names) => (names.length > 1 ? "have" : "has");

@@ -3,9 +3,12 @@
 const changed = (before, now) =>
   html("span", { class: "change" }, whole(number(before)), " → ", html("b", {}, number(now)));
 
+/** What made a stream wait for a word that is not full, or not empty, and what lets it go on. */
+const turnedWords = (wait) => (wait.for === "full" ? ["emptied", "filled"] : ["filled", "emptied"]);
+
 /** What a wait is for, and who made it wait, as it stands after step n; `since` names its first try. */
 function waitText(wait, n, since) {
-  const [turned, mended] = wait.for === "full" ? ["emptied", "filled"] : ["filled", "emptied"];
+  const [turned, mended] = turnedWords(wait);
   const first = since ? ["since ", stepLink(since), " "] : [];
   const start = ["waits ", ...first, `for ${fullName(wait.word)} to be ${wait.for}`];
   const made = turnedIn(wait.word, n);
@@ -44,7 +47,7 @@ function waitNote(step, n) {
   if (freed) return [` ${namedWord(freed.word)} is ${freed.for} since `, stepLink(freed.met), "."];
   const wait = step.o === "blocked" ? waitAt(step.who, n) : undefined;
   if (!wait) return [];
-  const turned = wait.for === "full" ? "emptied" : "filled";
+  const [turned] = turnedWords(wait);
   const made = turnedIn(wait.word, n);
   if (!made) return [` No step has ${turned} it, it was so at the start.`];
   const by = steps[made - 1].who;

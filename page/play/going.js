@@ -19,14 +19,19 @@ function lead() {
     + `${count(N, "state", "states")} and ${count(n, "end", "ends")}.${verdictText()}`];
 }
 
+/** What follows from it that every schedule ends right; no more than that, where some line is not judged. */
+function rightText() {
+  if (data.unjudged.length) return `, as far as this page judges. It does not judge ${unjudgedText()}.`;
+  return runsForever() ? "." : ": you can’t break it.";
+}
+
 /** What holds of all schedules of the page. */
 function verdictText() {
   const [n, goods] = [data.ends.length, data.ends.filter((end) => end.right).length];
   if (isJudged && goods === 0) return ` No schedule${begins} ends right (expected: ${expectedText()}).`;
   if (isJudged && goods < n) return "";
   const ending = `${begins}${begins ? " and" : " that"} ends`;
-  if (isJudged) return runsForever() ? ` Every schedule${ending}, ends right.`
-    : ` Every schedule${begins} ends right: you can’t break it.`;
+  if (isJudged) return ` Every schedule${runsForever() ? `${ending},` : begins} ends right${rightText()}`;
   if (n > 1) return "";
   const { kind } = data.ends[0];
   if (kind === "spinning") return ` No schedule${begins} ends: it runs forever.`;

@@ -83,7 +83,8 @@ def by_reader(page):
         tally.check(f"it is told: {wanted}", any(name.startswith(wanted) for name in names), names[:60])
     pictures = [name for role, name in told if role in ("img", "image", "graphics-document")]
     tally.check("the lanes have a name", any("27 steps of 5 streams" in name for name in pictures), pictures)
-    tally.check("who waits for whom too", any("4.0 waits for [0] of 0.0" in name for name in pictures), pictures)
+    wait = "4.0 waits for [0] to be full, which 0.0 emptied"
+    tally.check("who waits for whom too", any(wait in name for name in pictures), pictures)
     tally.same("the told step is live", page.one("#told").get_attribute("aria-live"), "polite")
     value = page.one("#slider").get_attribute("aria-valuetext")
     tally.same("the slider says where it is", value, "position 27 of 27")

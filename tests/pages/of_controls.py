@@ -157,7 +157,7 @@ def ends(page):
     tally.check("a circle is of a deadlock", title.startswith("Deadlock: ") and "in a circle" in title, title)
     tally.same("the circle is drawn", (len(page.all(".ring .edge")), len(page.all(".ring .node.word"))), (5, 5))
     label = page.one(".ring").get_attribute("aria-label")
-    tally.check("and told", "0.0 waits for [8] fork+1 of 1.0" in label, label)
+    tally.check("and told", "0.0 waits for [8] fork+1 to be full, which 1.0 emptied" in label, label)
     tally.same("its words have their names", sorted(node.text for node in page.all(".ring .node.word text")),
                ["[0] fork", "[16] fork+2", "[24] fork+3", "[32] fork+4", "[8] fork+1"])
     tally.same("and so do the lanes", [node.text for node in page.all("#heads .head b")][5:7], ["[0] fork", "[8] fork+1"])

@@ -18,6 +18,14 @@ APART = "apart: LOAD.S r1, r0, 2\n QUIT\n"
 TAKES = "takes: LOAD.S r1, r0, 1\n QUIT\n"
 LATE = "late: LOAD.S r1, r0, 1\n QUIT\n"
 EMPTY, FULL = ".data 0, 0\n", ".data 0\n"
+# a stream that fills the word [0] and then waits until [8] is empty, one that fills them the other way round;
+# and of each one that takes [8] in place of filling it
+FILLS = "fills: STORE.S r1, r0, 0\n STORE.S r1, r0, 1\n QUIT\n"
+REFILLS = "refills: STORE.S r1, r0, 1\n STORE.S r1, r0, 0\n QUIT\n"
+EMPTIES = "empties: LOAD.S r1, r0, 1\n STORE.S r1, r0, 0\n QUIT\n"
+FILLS_8 = "fills: STORE.S r1, r0, 0\n LOAD.S r1, r0, 1\n QUIT\n"
+LOOPS = "loops: SKIP ALWAYS, 0, -1\n"
+TOOK = "0.0 waits for [8] to be full, which 1.0 emptied; 1.0 waits for [0] to be full, which 0.0 emptied"
 
 
 def program(data, *streams):
@@ -34,24 +42,43 @@ CASES = {
                           "Deadlock: 1.0 waits forever; a trap stopped 0.0", []),
     # nor the last step
     "trap_before_the_end": (program(EMPTY, TRAPS, GOES), "0 0 2\n1 0 3\n", 2, "Stopped by a trap: 0.0", []),
+    # nor what goes on
+    "trap_beside_a_loop": (program(EMPTY, TRAPS, LOOPS), "0 0 2\n1 0 3\n", 2,
+                           "The schedule ends after 5 steps, before the program does; a trap stopped 0.0", []),
     # of two traps the first
     "two_traps": (program(EMPTY, TRAPS, TRAPS.replace("traps", "again")), "0 0 1\n1 0 2\n0 0 1\n", 3,
                   "Stopped by a trap: 0.0 and 1.0", []),
     # 0.0 has [0] and waits for [8], 1.0 has [8] and waits for [0]: from step 4 on nobody goes on
     "circle": (program(FULL * 2, ONE, OTHER), "0 0 1\n1 0 1\n0 0 1\n1 0 2\n", 4,
                "Deadlock: 0.0 and 1.0 wait for each other in a circle",
-               ["0.0 waits for [8] of 1.0; 1.0 waits for [0] of 0.0"]),
+               [TOOK]),
+    # 0.0 has filled [0] and waits for [8], 1.0 the other way round: no word is taken
+    "circle_of_stores": (program(EMPTY * 2, FILLS, REFILLS), "0 0 1\n1 0 1\n0 0 1\n1 0 2\n", 4,
+                         "Deadlock: 0.0 and 1.0 wait for each other in a circle",
+                         ["0.0 waits for [8] to be empty, which 1.0 filled; 1.0 waits for [0] to be empty, which 0.0 "
+                          "filled"]),
+    # 0.0 has filled [0] and waits until [8] is full, which 1.0 has taken
+    "circle_of_both": (program(EMPTY + FULL, FILLS_8, EMPTIES), "0 0 1\n1 0 1\n0 0 1\n1 0 2\n", 4,
+                       "Deadlock: 0.0 and 1.0 wait for each other in a circle",
+                       ["0.0 waits for [8] to be full, which 1.0 emptied; 1.0 waits for [0] to be empty, which 0.0 "
+                        "filled"]),
     # 2.0 waits for [0] too, and 3.0 for [16], which is empty from the start
     "beside_a_circle": (program(FULL * 2 + EMPTY, ONE, OTHER, THIRD, APART),
                         "0 0 1\n1 0 1\n0 0 1\n1 0 1\n2 0 1\n3 0 2\n", 6,
                         "Deadlock: 0.0 and 1.0 wait for each other in a circle, and 2.0 waits for them; 3.0 waits for "
-                        "something else", ["0.0 waits for [8] of 1.0; 1.0 waits for [0] of 0.0"]),
+                        "something else", [TOOK]),
     "apart_from_a_circle": (program(FULL * 2 + EMPTY, ONE, OTHER, APART), "0 0 1\n1 0 1\n0 0 1\n1 0 1\n2 0 2\n", 5,
                             "Deadlock: 0.0 and 1.0 wait for each other in a circle; 2.0 waits for something else",
-                            ["0.0 waits for [8] of 1.0; 1.0 waits for [0] of 0.0"]),
+                            [TOOK]),
     # 0.0 took [8] and has quit, 1.0 waits for it, and 2.0 for [0], which is empty from the start: one row is drawn
     "rows": (program(EMPTY + FULL, TAKES, LATE, WAITS), "0 0 2\n1 0 1\n2 0 2\n", 4, "Deadlock: 1.0 and 2.0 wait forever",
-             ["1.0 waits for [8] of 0.0"]),
+             ["1.0 waits for [8] to be full, which 0.0 emptied"]),
+}
+# by the name of a case: what a picture of a circle says below the arrows' first words
+ARROWS = {
+    "circle": "this word, which the next took",
+    "circle_of_stores": "this word, which the next filled",
+    "circle_of_both": "this word, which the next changed",
 }
 STORES_TWICE = "stores: LIT r1, 5\n STORE.N r1, r0, 0\n STORE.N r1, r0, 1\n STORE.N r1, r0, 1\n LIT r1, 6\n QUIT\n"
 TAKES_IT = "takes: LIT r1, 5\n STORE.N r1, r0, 0\n LOAD.S r2, r0, 0\n LIT r1, 6\n QUIT\n"
@@ -115,4 +142,5 @@ def part(page):
         tally.same(f"{name}: its title", heading, title)
         tally.same(f"{name}: what is drawn of the end", told, drawn)
         tally.check(f"{name}: no stream is drawn that is none", "none" not in letters, letters)
+        tally.check(f"{name}: what the arrows are", ARROWS.get(name, "") in letters, letters)
         page.quiet(name)

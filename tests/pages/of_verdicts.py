@@ -22,11 +22,24 @@ POLLS = ("LOAD.N r1, r0, 0", "ADD.T r2, r1, 0", "SKIP EQ, 0, -3", "QUIT")
 POLLS_BY_ONE = ("LOAD.N r1, r0, 0 | LTU.T r2, r1, 1 | SKIP NE, 0, -1", "QUIT")
 TAKES = ("LOAD.S r1, r0, 0", "QUIT")
 KNOWN = "This page knows every schedule"
+WORK = "each of 0.0 1.0 writes word 0"
+LEAST = "at least 2 streams store to words 0..0"
+NOT_JUDGED = f", as far as this page judges. It does not judge \u201c{WORK}\u201d."
 # what is expected, the schedule that all begin with, and what the page says of all schedules
 LEADS = {
     "stores": (two(STORES, STORES), "word 0 1", "", "there is", "Every schedule ends right: you can\u2019t break it."),
     "polls": (two(POLLS, STORES), "word 0 1", "", "there is", "Every schedule that ends, ends right."),
     "polls_by_one": (two(POLLS_BY_ONE, STORES), "word 0 1", "", "there is", "Every schedule that ends, ends right."),
+    # 1.0 does no work: a page does not judge the line that says so
+    "work": (two(STORES, ("QUIT",)), f"word 0 1\n{WORK}", "", "there is", f"Every schedule ends right{NOT_JUDGED}"),
+    "work_alone": (two(STORES, ("QUIT",)), WORK, "", "there is", f"Every schedule ends right{NOT_JUDGED}"),
+    "work_polls": (two(POLLS, STORES), f"word 0 1\n{WORK}", "", "there is",
+                   f"Every schedule that ends, ends right{NOT_JUDGED}"),
+    "work_begun": (two(STORES, ("QUIT",)), f"word 0 1\n{WORK}\n{LEAST}", "0 0 1\n", "that begins so",
+                   f"Every schedule that begins so ends right{NOT_JUDGED[:-1]} and \u201c{LEAST}\u201d."),
+    "work_wrong": (two(STORES, ("QUIT",)), f"word 0 3\n{WORK}", "", "there is",
+                   f"No schedule ends right (expected: \u201cword 0 3\u201d and \u201c{WORK}\u201d (not judged on "
+                   "this page))."),
     # a try that is blocked is no step that goes on
     "takes": (two(TAKES, STORES, ".retry 3\n.data 0, 0"), "finished", "", "there is", ""),
     "waits": (two(TAKES, STORES, ".data 0, 0"), "finished", "", "there is",
@@ -111,6 +124,11 @@ def judged(page):
     for streams, wanted in (((0, 1, 1, 0, 0), "you lost an update"), ((0, 0, 0, 1, 1), "you made it go wrong")):
         page.script("setGoal(kinds.indexOf('wrong')); extend(0, arguments[0]); goTo(way.length)", [*streams, 0, 1])
         tally.same(f"reached by {streams}", page.text("#result h2"), f"Goal reached: {wanted}")
+    opened(page, "no_work", two(STORES, ("QUIT",)), f"word 0 1\n{WORK}")
+    page.script("setGoal(null); extend(0, shortestWay(0, 0)); goTo(way.length)")
+    result = page.text("#result")
+    tally.check("no_work: the result names what is not judged",
+                f"This page does not judge \u201c{WORK}\u201d." in result, result)
     opened(page, "given_finding", two(ADDS, ADDS), "word 0 2", "0 0 1\n")
     page.script("setGoal(null); extend(0, shortestWay(0, kinds.indexOf('wrong'))); goTo(way.length)")
     result = page.text("#result")

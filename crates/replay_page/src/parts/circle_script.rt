@@ -11,7 +11,12 @@ const wordNode = (x, y, text) => node("word", x, y, text, 10 + 8 * text.length, 
 const edgeHead = (x, y, degrees) =>
   svg("path", { class: "edge-head", d: "M0 0l-10 -5v10z", transform: `translate(${x} ${y}) rotate(${degrees})` });
 
-const waitWords = (wait) => `${wait.stream} waits for ${fullName(wait.word)} of ${wait.by}`;
+/** A wait in words, as `waitText` has it, without the step. */
+function waitWords(wait) {
+  const [turned] = turnedWords(wait);
+  const who = wait.by === wait.stream ? `it ${turned} itself` : `${wait.by} ${turned}`;
+  return `${wait.stream} waits for ${fullName(wait.word)} to be ${wait.for}, which ${who}`;
+}
 
 /** A picture of waits, which a screen reader reads as words. */
 const waitPicture = (width, height, waits) =>
@@ -75,6 +80,10 @@ function arcOf({ spot, within, rx, ry, head }, i) {
   };
 }
 
+/** What the next stream of a circle did to the word that is waited for; `changed` where waits differ. */
+const circleWord = (waits) => (waits.every((wait) => wait.for === "full") ? "took"
+  : waits.every((wait) => wait.for === "empty") ? "filled" : "changed");
+
 /** The streams of a circle on a ring: an arrow from each to the one that turned the word it waits for. */
 function drawCircle(circle, waiting) {
   const waits = circle.map((id) => waiting.find((wait) => wait.stream === id)).filter(Boolean);
@@ -90,9 +99,9 @@ function drawCircle(circle, waiting) {
     word.append(svg("title", {}, fullName(wait.word)));
     nodes.push(word, streamNode(...ring.spot(i), wait.stream));
   });
-  const told = ["each arrow: waits for", "this word, which the next took"];
+  const lines = ["each arrow: waits for", `this word, which the next ${circleWord(waits)}`];
   const [x, y] = [ring.width / 2, ring.height / 2];
-  picture.append(...nodes, ...told.map((text, i) => svg("text", { class: "small", x, y: y - 3 + 15 * i }, text)));
+  picture.append(...nodes, ...lines.map((text, i) => svg("text", { class: "small", x, y: y - 3 + 15 * i }, text)));
   return picture;
 }
 

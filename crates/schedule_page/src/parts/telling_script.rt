@@ -57,7 +57,10 @@ function resultTitle(e) {
   return `${end.right === null ? "Finished" : end.right ? "Finished, and right" : "Finished, but wrong"}${text}`;
 }
 
-const expectedText = () => and(data.expected.map((text) => `“${text}”`));
+const quote = (text) => `“${text}”`;
+const unjudgedText = () => and(data.unjudged.map(quote));
+const expectedText = () =>
+  and([...data.expected.map(quote), ...data.unjudged.map((text) => `${quote(text)} (not judged on this page)`)]);
 
 /** The steps of an end's schedule, as names. */
 function scheduleSteps(text) {
@@ -84,6 +87,7 @@ function resultLines(e) {
   const end = data.ends[e];
   const lines = goalLine(e);
   if (end.missed) lines.push(html("li", {}, "Expected: ", code(end.missed), "."));
+  if (end.right && data.unjudged.length) lines.push(html("li", {}, `This page does not judge ${unjudgedText()}.`));
   lines.push(...brokenLines(here(), e));
   if (end.kind === "deadlock") {
     names.forEach((name, k) => {
