@@ -30,6 +30,9 @@ go:     LOAD.N  r2, r0, 0
 # four streams, each in any of 20 places: 160,000 states, of which the search for ends needs few
 WIDE = b" .slim 1\n" + b" .entry 0\n" * 4 + b" LIT r1, 1\n" * 18 + b" QUIT\n .data 0\n"
 
+# the same, each in any of 8: 4,096 states, of which a megabyte has some 1,300; the search for ends needs less
+NEAR = b" .slim 1\n" + b" .entry 0\n" * 4 + b" LIT r1, 1\n" * 6 + b" QUIT\n .data 0\n"
+
 # a program that comes to new states forever
 COUNTING = b".entry more\n.data 0\nmore: ADD r1, r1, 1\nSKIP ALWAYS, 0, more\n"
 
@@ -317,7 +320,7 @@ def pages_by_cases():
 
 @checks.others("grade/pages_refused")
 def pages_refused():
-    """Graphs that are too large for a page, folders that can't be made, and pages that would replace a submission."""
+    """Graphs that are too large for a page or for the memory that is given, folders that can't be made, and pages that would replace a submission."""
     with tempfile.TemporaryDirectory(prefix="mta-case-") as folder:
         made(folder, "w.expect", b"word 0 2\n")
         made(folder, "wide.asm", WIDE)
@@ -325,6 +328,14 @@ def pages_refused():
         status, err, objects = paged(folder, "--explore", "--pages", "out", "wide.asm")
         yield "too many states", (3, b"", ["out/wide.html"]), (status, err, [one["page"] for one in objects])
         yield "its run", "page", shown(os.path.join(folder, "out", "wide.html"))["object"]
+        made(folder, "near.asm", NEAR)
+        made(folder, "other.asm", RIGHT)
+        for words, kind in ((("--memory", "1"), "page"), ((), "graph")):
+            call = ("--explore", *words, "--pages", kind, "near.asm", "other.asm")
+            status, err, objects = paged(folder, *call)
+            yield f"{words}: both have pages", (3, b"", [f"{kind}/near.html", f"{kind}/other.html"]), (
+                status, err, [one["page"] for one in objects])
+            yield f"{words}: what it shows", kind, shown(os.path.join(folder, kind, "near.html"))["object"]
         plain = paged(folder, "wide.asm")
         found = paged(folder, "--pages", "none/out", "wide.asm")
         fault = b"mta_lab: none/out: the folder cannot be made: No such file or directory (os error 2)\n"

@@ -8,7 +8,7 @@ use exercise_advice::searches::Console;
 use lab_requests::{ExerciseTask, MOST_PLAYED};
 use lab_texts::ProgramNames;
 use processor::Step;
-use program_pages::{PlayedProgram, play_page, replay_page};
+use program_pages::{PlayPage, PlayedProgram, page_bounds, play_page, replay_page, too_large};
 use replay_page::{RunNames, RunVerdict};
 use std::alloc::{AllocError, Global};
 use std::io::Write;
@@ -99,9 +99,17 @@ impl ShownRun<'_> {
             required: &self.decided.required,
             opened: self.steps,
         };
-        match play_page(alloc, &played, console)? {
-            Some(page) => Ok(AskedPage::Ready { path, page }),
-            None => Ok(AskedPage::Missing(too_many_states(alloc, path)?)),
+        let bounds = page_bounds(MOST_PLAYED);
+        match play_page(alloc, &played, bounds, console)? {
+            PlayPage::Written(page) => Ok(AskedPage::Ready { path, page }),
+            PlayPage::TooLarge(bound) => {
+                let why = too_large(alloc, bounds, bound)?;
+                Ok(AskedPage::Missing(unwritten_but_one(alloc, path, &why)?))
+            }
+            PlayPage::NoSuchEnd => {
+                let why = "no schedule leads to such an end";
+                Ok(AskedPage::Missing(unwritten(alloc, path, why)?))
+            }
         }
     }
 
@@ -153,9 +161,7 @@ fn unwritten(alloc: Global, path: &str, why: &str) -> Result<String, AllocError>
     format!(in alloc; "{path}: not written: {why}")
 }
 
-/// Why a page of all schedules is not written.
-fn too_many_states(alloc: Global, path: &str) -> Result<String, AllocError> {
-    format!(in alloc;
-        "{path}: not written: the program has more than {MOST_PLAYED} states; --page shows one run"
-    )
+/// Why a page of all schedules is not written, of a program that is too large for it.
+fn unwritten_but_one(alloc: Global, path: &str, why: &str) -> Result<String, AllocError> {
+    format!(in alloc; "{path}: not written: {why}; --page shows one run")
 }

@@ -102,28 +102,24 @@ impl FoundProgram<'_> {
         format!(in alloc; "{article} to end {number} ({kind}){begins}")
     }
 
-    /// How an end was judged, which does not meet this line; nothing where that is empty.
+    /// How an end was judged, which does not meet this line; nothing where that is empty. An end that is as expected is not
+    /// judged if a line is left that the search does not decide.
     fn verdict_of<'m>(self, end: &SpaceEnd, missed: &'m str) -> RunVerdict<'m> {
         let required = self.required;
         if required.is_nothing() {
             RunVerdict::NotJudged
         } else if end.is_expected() && self.unkept_line().is_none() {
-            self.verdict_of_expected()
+            if self.leaves_a_line() {
+                RunVerdict::NotJudged
+            } else {
+                RunVerdict::Expected
+            }
         } else if missed.is_empty() {
             RunVerdict::NotExpected { missed: None }
         } else {
             RunVerdict::NotExpected {
                 missed: Some(missed),
             }
-        }
-    }
-
-    /// How an end was judged that is as expected: not, if a line is left that the search does not decide.
-    fn verdict_of_expected(self) -> RunVerdict<'static> {
-        if self.leaves_a_line() {
-            RunVerdict::NotJudged
-        } else {
-            RunVerdict::Expected
         }
     }
 

@@ -1,11 +1,11 @@
 //! The pages of verdicts: runs that show that submissions are not right.
 
 use expectation_messages::parts::{LabFault, Program, made_by};
-use lab_requests::Maker;
+use lab_requests::{Bounds, MOST_PLAYED, Maker};
 use lab_texts::ProgramNames;
 use processor::Step;
 use program_pages::searches::Console;
-use program_pages::{PlayedProgram, play_page, replay_page};
+use program_pages::{PlayPage, PlayedProgram, page_bounds, play_page, replay_page};
 use replay_page::{RunNames, RunVerdict};
 use result_lines::judges::{Case, Witness, required_by};
 use result_lines::reports::{CaseRow, GradeRow, case_for_student};
@@ -18,7 +18,8 @@ use submission_rows::{Grading, given_by};
 const THAT_DECIDES: &str = "the schedule that decides";
 
 /// The page of the run that shows a verdict on a program that is called so, by the first of the most severe cases that are not
-/// hidden; None if no run does, or if it has more steps than a page. Of a schedule it is the page of all schedules, which opens at its end, if they have no more states than a page.
+/// hidden; None if no run does, or if it has more steps than a page. Of a schedule it is the page of all schedules, which opens
+/// at its end, if the search for their states comes to no bound.
 pub(crate) fn page_of_row<C: Clock, E: Write>(
     alloc: Global,
     grading: &Grading<'_, '_>,
@@ -68,7 +69,7 @@ fn page_by_case<C: Clock, E: Write>(
     match &row.witness {
         Witness::None => Ok(None),
         Witness::Seed(seed) => { Ok(page_of_seed(alloc, grading.request.most, shown, row, *seed)?) }
-        Witness::Schedule(steps) => match page_of_all(alloc, shown, steps, console)? {
+        Witness::Schedule(steps) => match page_of_all(alloc, grading, shown, steps, console)? {
             Some(page) => Ok(Some(page)),
             None => Ok(page_of_steps(alloc, shown, row, THAT_DECIDES, steps)?),
         },
@@ -111,9 +112,10 @@ fn page_verdict_of(row: &CaseRow) -> RunVerdict<'_> {
     }
 }
 
-/// The page of all schedules of a program, which opens after these steps; None if it has too many states.
+/// The page of all schedules of a program, which opens after these steps; None if it is too large.
 fn page_of_all<C: Clock, E: Write>(
     alloc: Global,
+    grading: &Grading<'_, '_>,
     shown: ShownProgram<'_>,
     steps: &[Step],
     console: &mut Console<'_, C, E>,
@@ -130,5 +132,20 @@ fn page_of_all<C: Clock, E: Write>(
         required: &required,
         opened: steps,
     };
-    play_page(alloc, &played, console)
+    match play_page(alloc, &played, bounds_of_page(grading), console)? {
+        PlayPage::Written(page) => Ok(Some(page)),
+        PlayPage::TooLarge(_) | PlayPage::NoSuchEnd => Ok(None),
+    }
+}
+
+/// How far the search for the states of a page goes: up to those of a page, by the time and the memory of the search that
+/// judges a submission.
+fn bounds_of_page(grading: &Grading<'_, '_>) -> Bounds {
+    match grading.asked().explored {
+        Some(bounds) => Bounds {
+            worlds: MOST_PLAYED,
+            ..bounds
+        },
+        None => page_bounds(MOST_PLAYED),
+    }
 }

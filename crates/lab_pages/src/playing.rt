@@ -7,11 +7,13 @@ use expectation_messages::parts::{CommandAnswer, Inputs, LabFault, Program, read
 use expectation_messages::requirements_of;
 use lab_requests::PlayRequest;
 use lab_texts::ProgramNames;
-use plain_text::{plain, plural, stem_of};
+use plain_text::{plain, stem_of};
 use processor::Step;
 use program_pages::goals::EndGoal;
 use program_pages::searches::Console;
-use program_pages::{PageChoices, PlayPage, PlayedProgram, page_of_schedules};
+use program_pages::{
+    PageChoices, PlayPage, PlayedProgram, page_bounds, page_of_schedules, too_large,
+};
 use std::alloc::{AllocError, Global};
 use std::io::{Read, Write};
 use std::rt::Files;
@@ -49,14 +51,18 @@ pub fn write_play_page<C: Clock, F: Files, R: Read, E: Write>(
         required: &required,
         opened: &[],
     };
+    let bounds = page_bounds(request.states);
     let choices = PageChoices {
         begin: &begin,
-        states: request.states,
+        bounds,
         goal: request.goal.map(|word| EndGoal::of_word(word)),
     };
     match page_of_schedules(alloc, &played, choices, console)? {
         PlayPage::Written(page) => inputs.write(alloc, request.out, page.as_bytes())?,
-        PlayPage::TooManyStates => return Err(too_many(alloc, request)?),
+        PlayPage::TooLarge(bound) => {
+            let why = too_large(alloc, bounds, bound)?;
+            return Err(unwritten(alloc, request, &why)?);
+        }
         PlayPage::NoSuchEnd => return Err(no_such_end(alloc, request)?),
     }
     page_answer(alloc, request.out)
@@ -89,13 +95,11 @@ fn begin_asked<F: Files, R: Read>(
     }
 }
 
-/// What is said of a program of too many states.
-fn too_many(alloc: Global, request: &PlayRequest) -> Result<LabFault, AllocError> {
+/// What is said of a program that is too large, for a reason.
+fn unwritten(alloc: Global, request: &PlayRequest, why: &str) -> Result<LabFault, AllocError> {
     let out = request.out;
-    let states = request.states;
-    let some_states = plural(states);
     Ok(LabFault::Words(format!(in alloc;
-        "{out}: not written: the program has more than {states} state{some_states}; loops that repeat less often make fewer states, and so does a beginning by --from"
+        "{out}: not written: {why}; loops that repeat less often make fewer states, and so does a beginning by --from"
     )?))
 }
 

@@ -3,7 +3,7 @@
 use crate::expected_texts::{expected_texts, unjudged_texts};
 use crate::played_programs::{PageChoices, PlayedProgram};
 use image_machines::by_room;
-use lab_requests::MOST_PLAYED;
+use lab_requests::Bounds;
 use lab_texts::{Notation, NumberStyle};
 use schedule_page::ends_of_space::SpaceEnd;
 use schedule_page::goals::{EndCriteria, EndGoal};
@@ -21,28 +21,26 @@ use std::time::Clock;
 pub enum PlayPage {
     /// The page.
     Written(String),
-    /// None: the program has more states than the page is to have.
-    TooManyStates,
+    /// None: the search for the program's states came to this bound, and no memory was refused to it.
+    TooLarge(SearchBound),
     /// None: no end is the one that the reader is to reach first.
     NoSuchEnd,
 }
 
-/// The page on which the reader is the scheduler of a program from its start on; None if the program has more states than a
-/// page.
+/// The page on which the reader is the scheduler of a program from its start on, if the search for its states comes to none
+/// of these bounds.
 pub fn play_page<C: Clock, E: Write>(
     alloc: Global,
     played: &PlayedProgram<'_, '_>,
+    bounds: Bounds,
     console: &mut Console<'_, C, E>,
-) -> Result<Option<String>, LabFault> {
+) -> Result<PlayPage, LabFault> {
     let choices = PageChoices {
         begin: &[],
-        states: MOST_PLAYED,
+        bounds,
         goal: None,
     };
-    match page_of_schedules(alloc, played, choices, console)? {
-        PlayPage::Written(page) => Ok(Some(page)),
-        PlayPage::TooManyStates | PlayPage::NoSuchEnd => Ok(None),
-    }
+    page_of_schedules(alloc, played, choices, console)
 }
 
 /// The page on which the reader is the scheduler of a program, of these choices.
@@ -98,13 +96,13 @@ fn is_broken_before(ends: &[SpaceEnd]) -> bool {
     false
 }
 
-/// What comes of a page where the search ended at a bound: it is only one of states.
+/// What comes of a page where the search ended at a bound.
 fn not_complete(bound: Option<SearchBound>) -> Result<PlayPage, LabFault> {
     match bound {
-        Some(SearchBound::States) => Ok(PlayPage::TooManyStates),
-        Some(SearchBound::Seconds | SearchBound::Memory | SearchBound::Refused) | None => {
-            Err(LabFault::NoMemory)
-        }
+        Some(SearchBound::States) => Ok(PlayPage::TooLarge(SearchBound::States)),
+        Some(SearchBound::Seconds) => Ok(PlayPage::TooLarge(SearchBound::Seconds)),
+        Some(SearchBound::Memory) => Ok(PlayPage::TooLarge(SearchBound::Memory)),
+        Some(SearchBound::Refused) | None => Err(LabFault::NoMemory),
     }
 }
 

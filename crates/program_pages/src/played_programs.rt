@@ -28,10 +28,20 @@ pub struct PlayedProgram<'a, 't> {
 pub struct PageChoices<'a> {
     /// The steps that all schedules begin with.
     pub begin: &'a [Step],
-    /// The most states, at least 1.
-    pub states: usize,
+    /// How far the search for their states goes.
+    pub bounds: Bounds,
     /// The end that the reader is to reach first.
     pub goal: Option<EndGoal>,
+}
+
+/// How far a search goes for a page of so many states at most, at least 1, of which nothing else is said.
+pub fn page_bounds(states: usize) -> Bounds {
+    Bounds {
+        worlds: states,
+        seconds: None,
+        megabytes: None,
+        megabytes_in_all: None,
+    }
 }
 
 impl<'a> PageChoices<'a> {
@@ -40,12 +50,7 @@ impl<'a> PageChoices<'a> {
         ProgramSearch {
             required,
             begin: self.begin,
-            bounds: Bounds {
-                worlds: self.states,
-                seconds: None,
-                megabytes: None,
-                megabytes_in_all: None,
-            },
+            bounds: self.bounds,
             is_plain: true,
         }
     }

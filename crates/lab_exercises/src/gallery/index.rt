@@ -61,7 +61,7 @@ fn levels_value(
                 return Err(file.fault(
                     alloc,
                     level.line,
-                    "the program has more states than a page shows",
+                    "the program is too large for a page of all schedules",
                 )?);
             }
             None => {

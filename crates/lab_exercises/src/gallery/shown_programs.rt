@@ -8,7 +8,9 @@ use plain_text::plain;
 use processor::Step;
 use program_pages::goals::EndGoal;
 use program_pages::searches::Console;
-use program_pages::{PageChoices, PlayPage, PlayedProgram, page_of_schedules, replay_page};
+use program_pages::{
+    PageChoices, PlayPage, PlayedProgram, page_bounds, page_of_schedules, replay_page,
+};
 use replay_page::{RunNames, RunVerdict};
 use std::alloc::{AllocError, Global};
 use std::io::Write;
@@ -33,7 +35,7 @@ pub(crate) struct ShownProgram<'a> {
 }
 
 impl ShownProgram<'_> {
-    /// The page of all schedules, whose first goal is that of the level; None if the program has more states than a page.
+    /// The page of all schedules, whose first goal is that of the level; None if the program is too large for it.
     pub(crate) fn page_of_all<C: Clock, E: Write>(
         self,
         alloc: Global,
@@ -51,12 +53,12 @@ impl ShownProgram<'_> {
         };
         let choices = PageChoices {
             begin: &[],
-            states: MOST_PLAYED,
+            bounds: page_bounds(MOST_PLAYED),
             goal: level.map(|level: &Level<'_>| EndGoal::of_word(level.goal)),
         };
         match page_of_schedules(alloc, &played, choices, console)? {
             PlayPage::Written(page) => Ok(Some(page)),
-            PlayPage::TooManyStates => Ok(None),
+            PlayPage::TooLarge(_) => Ok(None),
             PlayPage::NoSuchEnd => Err(no_such_end(alloc, level, file)?),
         }
     }
