@@ -41,7 +41,7 @@ def example(name):
 
 def commands(folder):
     """Command lines whose allocations are refused."""
-    wishes = write(folder, "wanted.expect", b"word 8 2 full # both\nfinished\n")
+    expected = write(folder, "wanted.expect", b"word 8 2 full # both\nfinished\n")
     claims = write(folder, "claims.expect", b"always at most 1 of 0.0 1.0 in count+1..count+3\nnever word 8 below 0 signed\n")
     begin = write(folder, "begin.schedule", b"0 0 2\n")
     racing = os.path.join(GRADED, "racing.asm")
@@ -64,12 +64,12 @@ def commands(folder):
         ["explore", write(folder, "round.asm", ROUND)],
         ["explore", "--plain", write(folder, "shared.asm", SHARED)],
         ["explore", racing, "--from", begin, "--expect", claims],
-        ["play", racing, "--expect", wishes, "--out", os.path.join(folder, "played.html")],
-        ["grade", "--explore", "--expect", wishes, racing],
-        ["grade", "--all", "--format", "junit", "--expect", wishes, "--seeds", "5", racing],
+        ["play", racing, "--expect", expected, "--out", os.path.join(folder, "played.html")],
+        ["grade", "--explore", "--expect", expected, racing],
+        ["grade", "--all", "--format", "junit", "--expect", expected, "--seeds", "5", racing],
         ["grade", "--json", "--expect", claims, "--seeds", "5", racing],
-        ["grade", "--given", write(folder, "given.data", b" .data 5\n .data 0\n"), "--expect", wishes, "--seeds", "5", racing],
-        ["grade", "--expect", wishes, "--seeds", "5", *sorted(os.path.join(GRADED, it) for it in os.listdir(GRADED))],
+        ["grade", "--given", write(folder, "given.data", b" .data 5\n .data 0\n"), "--expect", expected, "--seeds", "5", racing],
+        ["grade", "--expect", expected, "--seeds", "5", *sorted(os.path.join(GRADED, it) for it in os.listdir(GRADED))],
     ]
 
 
