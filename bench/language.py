@@ -4,9 +4,9 @@ line: from a change until its diagnostics are there, and what that takes of a pr
 change waits until it is taken, how many of the changes are checked, and how long it takes until the last one's diagnostics
 are there. What a change takes in instructions, where valgrind is. Times are medians; the longest stands behind them.
 
-  language.py [PROGRAM]
+  language.py [LAB]
 
-PROGRAM is the lab that was built here, by default. With PROGRAM=draft in the environment it is the draft."""
+LAB is the lab that was built of the files that are here, by default; with PROGRAM=draft in the environment the draft."""
 
 import sys
 
@@ -142,7 +142,7 @@ def instructions(words, lines, faulty):
 
 
 def main():
-    program = sys.argv[1] if len(sys.argv) > 1 else built.place("mta_lab")
+    program = sys.argv[1] if len(sys.argv) > 1 else built.path("mta_lab")
     for lines, count, keys, pause in SIZES:
         for faulty in (False, True):
             what = f"lsp, {lines} lines, {len(text_of(lines, faulty, 0))} bytes{', faults' if faulty else ''}"

@@ -1,10 +1,12 @@
 #!/usr/bin/env bash
 # Wall time (the best of three runs) of the lab on texts with many names of data words: `check` of 4,000 names and as many
 # lines that name one where none may stand, and `grade` of 20 submissions with 4,000 names. The expectations name the last.
-# Usage: names.sh [PROGRAM], by default the lab that was built here.
+# Usage: names.sh [LAB], by default the lab that was built of the files that are here; with PROGRAM=draft in the
+# environment the draft.
 set -eu
 cd "$(dirname "$0")/.."
-lab=${1:-$PWD/crates/mta_lab/out/mta_lab}
+[ $# -gt 0 ] || tests/built.sh ask mta_lab
+lab=${1:-$PWD/$(tests/built.sh path mta_lab)}
 names=4000
 submissions=20
 work=$(mktemp -d)

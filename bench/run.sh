@@ -282,4 +282,5 @@ views
 searches
 report "lab: check, 65536 lines" "$(best 3 "$lab" check "$work/source" || true)" \
   "$(instructions "$lab" check "$work/source")" 65536 line "$(peak "$lab" check "$work/source")"
+bench/names.sh "$lab"
 bench/language.py "$lab"

@@ -37,15 +37,17 @@ WORDS_ALONE = ("share/man/man1/*.1", "crates/lab_command_line/src/help.rt", "cra
 HELD_CODE = (
     # who waits, and every schedule
     "stream_waits", "same_futures", "dead_registers", "agreeing_ends", "terminal_components", "busy_streams",
-    "changed_words", "first_findings", "schedule_turns",
+    "changed_words", "first_findings", "schedule_turns", "fair_rounds",
     # what is expected, and how programs end
-    "expectations", "end_states", "space_ends", "expectation_messages",
+    "expectations", "end_states", "space_ends", "expectation_messages", "work_rules", "seed_work",
+    # what is said of source texts, and edits of them
+    "source_edits", "source_fixes",
     # what the lab shows
     "image_machines", "space_graphs", "program_pages",
     # its commands, and what decides for them
-    "lab_command_line", "output_files", "program_searches", "judgements", "lab_views", "lab_pages", "lab_surveys",
-    "lab_adapter", "class_results", "end_goals", "seed_outcomes", "exercise_advice", "named_files", "search_texts",
-    "printed_lines", "grade_reports", "result_lines",
+    "lab_command_line", "output_files", "program_searches", "endless_waits", "judgements", "lab_views", "lab_pages",
+    "lab_surveys", "lab_adapter", "lab_language", "class_results", "end_goals", "seed_outcomes", "exercise_advice",
+    "named_files", "asked_programs", "search_texts", "printed_lines", "grade_reports", "result_lines", "submission_rows",
 )
 EASE, LONGEST = 60, 30
 # a word that readers stumble over, and what to write: those that code has not either, and those of documents alone

@@ -10,7 +10,7 @@ from typing import NamedTuple
 HERE = os.path.dirname(os.path.abspath(__file__))
 sys.path.append(os.path.join(HERE, "../spaces"))
 
-import wishes  # noqa: E402
+import expectations  # noqa: E402
 
 
 class NotJudged(Exception):
@@ -52,7 +52,7 @@ def read(text, names, words):
     lines = [" ".join(line.partition("#")[0].split()) for line in text.splitlines()]
     found = [line_of(line, Words(names, words)) for line in lines if line]
     return Required(*(tuple(one for one in found if isinstance(one, kind))
-                      for kind in (wishes.Expectation, wishes.Claim, Rule)))
+                      for kind in (expectations.Expectation, expectations.Claim, Rule)))
 
 
 class Words(NamedTuple):
@@ -82,18 +82,18 @@ def line_of(line, words):
     """What a line says."""
     match line.split():
         case ["word", address, value, *state]:
-            return wishes.Expectation(line, "word", (words.at(address), number(value), "".join(state)))
+            return expectations.Expectation(line, "word", (words.at(address), number(value), "".join(state)))
         case ["sum", both, value]:
             first, last = both.split("..")
-            return wishes.Expectation(line, "sum", (words.at(first), words.at(last), number(value)))
+            return expectations.Expectation(line, "sum", (words.at(first), words.at(last), number(value)))
         case ["finished"]:
-            return wishes.Expectation(line, "finished", ())
+            return expectations.Expectation(line, "finished", ())
         case [("always" | "never" | "some") as scope, "word", address, ("full" | "empty") as state]:
-            return wishes.Claim(line, scope, state, (words.of_program(address), 0, False))
+            return expectations.Claim(line, scope, state, (words.of_program(address), 0, False))
         case [("always" | "never" | "some") as scope, "word", address, ("is" | "above" | "below") as form, value]:
             is_signed = form != "is" and value[0] in "+-"
             value = int(value, 0) if is_signed else number(value)
-            return wishes.Claim(line, scope, form, (words.of_program(address), value, is_signed))
+            return expectations.Claim(line, scope, form, (words.of_program(address), value, is_signed))
         case ["entries", count]:
             return Rule("entries", (int(count),))
         case ["at", "most", count, "words"]:

@@ -9,12 +9,12 @@ from typing import NamedTuple
 HERE = os.path.dirname(os.path.abspath(__file__))
 sys.path += [os.path.join(HERE, "../spaces"), os.path.join(HERE, "../runner")]
 
+import expectations  # noqa: E402
 import machine  # noqa: E402
 import required  # noqa: E402
 import search  # noqa: E402
 import seed_rules  # noqa: E402
 import sources  # noqa: E402
-import wishes  # noqa: E402
 from ends_alone import EndsAlone  # noqa: E402
 
 RIGHT, WRONG, SPINS, NOT_DECIDED, NOT_JUDGED = "right", "wrong", "spins", "not decided", "not judged"
@@ -29,22 +29,22 @@ A_FEW = 4
 
 def against(wanted, world, kind):
     """The verdict of an end; None where it is as the lines about ends say."""
-    if wishes.is_trapped(wanted.ends, world):
+    if expectations.is_trapped(wanted.ends, world):
         return "trap"
     if kind == "deadlock":
         return "deadlock"
-    return WRONG if wishes.missed(wanted.ends, world) else None
+    return WRONG if expectations.missed(wanted.ends, world) else None
 
 
 def is_broken(wanted, worlds):
     """Whether one of some worlds breaks what `always` and `never` say."""
     claims = wanted.of_scope("always", "never")
-    return any(not wishes.holds(claim, world) for claim in claims for world in worlds)
+    return any(not expectations.holds(claim, world) for claim in claims for world in worlds)
 
 
 def unshown(claims, worlds):
     """The claims with `some` that none of some worlds shows."""
-    return [claim for claim in claims if not any(wishes.shows(claim, world) for world in worlds)]
+    return [claim for claim in claims if not any(expectations.shows(claim, world) for world in worlds)]
 
 
 def is_ruled_out(program, wanted):
@@ -164,7 +164,7 @@ class Runs:
         self.unshown = unshown(self.unshown, worlds)
         kind = None if why == RAN_OUT else kind_of(self.program, worlds[-1])
         if kind is None:
-            trapped = wishes.is_trapped(self.wanted.ends, worlds[-1])
+            trapped = expectations.is_trapped(self.wanted.ends, worlds[-1])
             return "trap" if trapped else WRONG if is_broken(self.wanted, worlds) else RAN_OUT
         found = against(self.wanted, worlds[-1], kind)
         return found or (WRONG if is_broken(self.wanted, worlds) else None)

@@ -16,7 +16,6 @@ from refusing import interposer, refused_allocation, refused_threads
 GRADED = os.path.join(EXAMPLES, "grading/submissions")
 STATUSES = {0, 1, 3, 4, 5}
 NO_MEMORY = b"mta_lab: no memory\n"
-NO_THREAD = b"mta_lab: dap takes a second thread, and the system starts none\n"
 # the bytes of a small stack
 SMALL_STACK = 65_536
 # what stands in the answer of a search that lacked memory on its way: nothing is said of all schedules
@@ -29,6 +28,10 @@ ROUND = b".entry give\n.entry take\n.data 0\ngive: STORE.S r0, r0, 0\nSKIP ALWAY
         b"take: LOAD.S r1, r0, 0\nSKIP ALWAYS, 0, take\n"
 SHARED = b".slim 2\n.entry go\n.data 0\ngo: LIT r2, 1\nRESERVE r3, r2\nTLIT t1, add\nCREATE t1, r2\n" \
          b"add: LIT r1, 1\nFADD.N r1, r0, 0\nQUIT\n"
+# a text that `check` can mend twice, and what `lsp` sends of it when no message waits
+SLIPS = " .entry go\n .data 0\n .data 5 ; limit\ngo: LIT r1, 7\n LOAD.N r2, limit, 0\n QUITE\n"
+DIAGNOSTICS = re.compile(rb'Content-Length: \d+\r\n\r\n\{"jsonrpc":"2.0","method":"textDocument/publishDiagnostics"'
+                         rb"(?:(?!Content-Length: ).)*", re.DOTALL)
 
 
 def lab(words, text=b"", **how):
@@ -41,7 +44,7 @@ def example(name):
 
 def commands(folder):
     """Command lines whose allocations are refused."""
-    wishes = write(folder, "wanted.expect", b"word 8 2 full # both\nfinished\n")
+    expected = write(folder, "wanted.expect", b"word 8 2 full # both\nfinished\n")
     claims = write(folder, "claims.expect", b"always at most 1 of 0.0 1.0 in count+1..count+3\nnever word 8 below 0 signed\n")
     begin = write(folder, "begin.schedule", b"0 0 2\n")
     racing = os.path.join(GRADED, "racing.asm")
@@ -64,12 +67,12 @@ def commands(folder):
         ["explore", write(folder, "round.asm", ROUND)],
         ["explore", "--plain", write(folder, "shared.asm", SHARED)],
         ["explore", racing, "--from", begin, "--expect", claims],
-        ["play", racing, "--expect", wishes, "--out", os.path.join(folder, "played.html")],
-        ["grade", "--explore", "--expect", wishes, racing],
-        ["grade", "--all", "--format", "junit", "--expect", wishes, "--seeds", "5", racing],
+        ["play", racing, "--expect", expected, "--out", os.path.join(folder, "played.html")],
+        ["grade", "--explore", "--expect", expected, racing],
+        ["grade", "--all", "--format", "junit", "--expect", expected, "--seeds", "5", racing],
         ["grade", "--json", "--expect", claims, "--seeds", "5", racing],
-        ["grade", "--given", write(folder, "given.data", b" .data 5\n .data 0\n"), "--expect", wishes, "--seeds", "5", racing],
-        ["grade", "--expect", wishes, "--seeds", "5", *sorted(os.path.join(GRADED, it) for it in os.listdir(GRADED))],
+        ["grade", "--given", write(folder, "given.data", b" .data 5\n .data 0\n"), "--expect", expected, "--seeds", "5", racing],
+        ["grade", "--expect", expected, "--seeds", "5", *sorted(os.path.join(GRADED, it) for it in os.listdir(GRADED))],
     ]
 
 
@@ -131,21 +134,21 @@ def drawing(tally, library, folder):
         tally.check(f"explore --dot: allocation {number} refused: {ended}", as_ever or told or bounded)
 
 
-def adapting(tally, library, folder):
-    """`dap` under refused memory, that of the thread that reads too: each request is answered, or the session ends with status 1
-    and a word."""
-    asked = framed("initialize", "launch", "configurationDone", *["threads"] * 5, "disconnect")
-    variables = refused_allocation(library, folder, 0)
-    ample = lab(["dap"], asked, **variables)
-    answers = ample.out.count(b'"type":"response"')
-    tally.check(f"dap with ample memory: {ample}", ample.status == 0 and answers == 9)
-    for number in range(1, int(read(variables["COUNT"])) + 1):
-        ended = lab(["dap"], asked, **refused_allocation(library, folder, number))
-        tally.runs += 1
-        tally.refused += ended.status == 1
-        answered = ended.status == 0 and ended.out.count(b'"type":"response"') == answers
-        told = (ended.status, ended.err) in ((1, NO_MEMORY), (1, NO_THREAD)) or ended.status == 2 and b"memory" in ended.err
-        tally.check(f"dap: allocation {number} refused: {ended}", answered or told)
+def serving(tally, library, folder):
+    """`dap` and `lsp` under refused memory, that of the thread that reads too: each request is answered, or the session ends
+    with status 1 and a word."""
+    for command, (asked, answer, answers) in sessions().items():
+        variables = refused_allocation(library, folder, 0)
+        ample = lab([command], asked, **variables)
+        tally.check(f"{command} with ample memory: {ample}", (ample.status, ample.out.count(answer)) == (0, answers))
+        for number in range(1, int(read(variables["COUNT"])) + 1):
+            ended = lab([command], asked, **refused_allocation(library, folder, number))
+            tally.runs += 1
+            tally.refused += ended.status == 1
+            answered = ended.status == 0 and ended.out.count(answer) == answers
+            said = ended.status == 1 and ended.err in (NO_MEMORY, no_thread(command))
+            unread = ended.status == 2 and b"memory" in ended.err
+            tally.check(f"{command}: allocation {number} refused: {ended}", answered or said or unread)
 
 
 def outputs(tally):
@@ -162,44 +165,86 @@ def outputs(tally):
         tally.runs += 2
 
 
-def framed(*commands):
-    """The bytes of these requests of an editor, a launch of lock.asm among them."""
-    bodies = [json.dumps({"seq": seq, "type": "request", "command": command,
-                          "arguments": {"program": example("lock.asm"), "stopOnEntry": True}}).encode()
-              for seq, command in enumerate(commands, start=1)]
+def framed(messages):
+    """The bytes of messages of an editor."""
+    bodies = [json.dumps(message).encode() for message in messages]
     return b"".join(b"Content-Length: %d\r\n\r\n%s" % (len(body), body) for body in bodies)
 
 
+def debugged(*commands):
+    """The bytes of these requests to `dap`, a launch of lock.asm among them."""
+    given = {"program": example("lock.asm"), "stopOnEntry": True}
+    return framed({"seq": seq, "type": "request", "command": command, "arguments": given}
+                  for seq, command in enumerate(commands, start=1))
+
+
+def written(faulty, right):
+    """The bytes of a session of `lsp`: these requests about a text with two slips, and then those about it without them."""
+    text = {"uri": "file:///slips.mta"}
+    places = {"position": {"line": 3, "character": 0}, "newName": "begin",
+              "range": {"start": {"line": 0, "character": 0}, "end": {"line": 9, "character": 0}}}
+    mended = SLIPS.replace("limit, 0", "r0, 1").replace("QUITE", "QUIT")
+
+    def asked(methods):
+        return [{"id": method, "method": f"textDocument/{method}", "params": {"textDocument": text, **places}}
+                for method in methods]
+
+    opened = {"textDocument": {**text, "languageId": "mta", "version": 0, "text": SLIPS}}
+    changed = {"textDocument": {**text, "version": 1}, "contentChanges": [{"text": mended}]}
+    return framed({"jsonrpc": "2.0", **message} for message in [
+        {"id": 1, "method": "initialize", "params": {"capabilities": {}}},
+        {"method": "textDocument/didOpen", "params": opened}, *asked(faulty),
+        {"method": "textDocument/didChange", "params": changed}, *asked(right),
+        {"id": 2, "method": "shutdown"}, {"method": "exit"}])
+
+
+def sessions():
+    """A session of each command that takes a second thread, with more messages than may wait: its bytes, what an answer has
+    that nothing else has, and how many answers there are."""
+    faulty = ["codeAction", "hover", "completion", "documentSymbol"]
+    right = ["definition", "references", "rename", "formatting"]
+    return {"dap": (debugged("initialize", "launch", "configurationDone", *["threads"] * 5, "disconnect"),
+                    b'"type":"response"', 9),
+            "lsp": (written(faulty, right), b'"jsonrpc":"2.0","id":', 10)}
+
+
+def no_thread(command):
+    """What a command says that can't start its second thread."""
+    return b"mta_lab: %s takes a second thread, and the system starts none\n" % command.encode()
+
+
 def without_threads(tally, library, folder):
-    """Where the system starts no thread `dap` says so, and all else answers as ever."""
+    """Where the system starts no thread `dap` and `lsp` say so, and all else answers as ever."""
     refused = refused_threads(library, folder, ",".join(map(str, range(1, 1000))))
-    asked = framed("initialize", "launch", "configurationDone", *["threads"] * 20, "disconnect")
-    ended = lab(["dap"], asked, **refused)
-    tally.check(f"dap without a thread: {ended}", (ended.status, ended.out, ended.err) == (1, b"", NO_THREAD))
     # the first is to see whether there is one, and the second is to read
-    ended = lab(["dap"], asked, **refused_threads(library, folder, "2"))
-    tally.check(f"dap without its second thread: {ended}", (ended.status, ended.out, ended.err) == (1, b"", NO_THREAD))
+    for variables in (refused, refused_threads(library, folder, "2")):
+        for command, (asked, _, _) in sessions().items():
+            ended = lab([command], asked, **variables)
+            tally.check(f"{command} without threads {variables['REFUSE_THREADS'][:20]}: {ended}",
+                        (ended.status, ended.out, ended.err) == (1, b"", no_thread(command)))
+            tally.runs += 1
     for words in commands(folder):
         ample, ended = lab(words), lab(words, **refused)
         tally.check(f"{words} without a thread: {ended}",
                     (ended.status, ended.out, ended.err) == (ample.status, ample.out, ample.err))
         tally.runs += 2
-    tally.runs += 1
 
 
 def small_stacks(tally, folder):
     """With a stack of 64 KB each command answers as ever, or ends with words; none is ended by a signal."""
     small = lambda: resource.setrlimit(resource.RLIMIT_STACK, (SMALL_STACK, SMALL_STACK))
     lock = example("lock.asm")
-    talks = [(["debug", lock], b"step 3\nwhy\nlist\nback\ntry 0.0\n"), (["dap"], framed("launch", "threads", "disconnect")),
+    talks = [(["debug", lock], b"step 3\nwhy\nlist\nback\ntry 0.0\n"),
+             (["dap"], debugged("launch", "threads", "disconnect")),
+             (["lsp"], written(["codeAction", "hover"], ["rename", "formatting"])),
              (["page", lock, "--out", os.path.join(folder, "lock.html")], b""), (["--help"], b""),
              (["picture", lock, "--out", os.path.join(folder, "lock.svg")], b""),
              (["asm", lock, "--out", os.path.join(folder, "lock.image")], b"")]
     for words, text in [*talks, *((words, b"") for words in commands(folder))]:
         ample, ended = lab(words, text), lab(words, text, setup=small)
         tally.runs += 2
-        tally.check(f"{words} with a small stack: {ended}",
-                    (ended.status, ended.out) == (ample.status, ample.out) or ended.status == 1 and ended.err != b"")
+        as_ever = (ended.status, DIAGNOSTICS.sub(b"", ended.out)) == (ample.status, DIAGNOSTICS.sub(b"", ample.out))
+        tally.check(f"{words} with a small stack: {ended}", as_ever or ended.status == 1 and ended.err != b"")
 
 
 def long_lines(tally):
@@ -254,7 +299,7 @@ def part(pool, folder):
         tally.add(one)
     assembling(tally, library, folder)
     drawing(tally, library, folder)
-    adapting(tally, library, folder)
+    serving(tally, library, folder)
     outputs(tally)
     without_threads(tally, library, folder)
     small_stacks(tally, folder)

@@ -98,18 +98,18 @@ def told_words(words):
     return {address: int(value) for address, _, (value, _) in words}
 
 
-def missed_register(trace, wishes):
-    """The first line of wishes about registers that the end of a trace of mta_sim does not meet."""
+def missed_register(trace, expected):
+    """The first expectation of a file, all about registers, that the end of a trace of mta_sim does not meet."""
     held, stream = {}, None
     for line in trace.decode().splitlines():
         if line.startswith("stream "):
             stream = ".".join(line.split()[1:])
         elif line.startswith("r"):
             held[stream, int(line[1:3])] = int(line[4:], 16)
-    for number, line in enumerate((wishes or b"").decode().splitlines(), start=1):
-        wish = line.partition("#")[0].strip()
-        if wish:
-            _, stream, register, value = wish.split()
+    for number, line in enumerate((expected or b"").decode().splitlines(), start=1):
+        words = line.partition("#")[0].strip()
+        if words:
+            _, stream, register, value = words.split()
             if held.get((stream, int(register[1:])), 0) != int(value):
-                return {"line": number, "text": wish}
+                return {"line": number, "text": words}
     return None

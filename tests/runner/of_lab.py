@@ -145,14 +145,14 @@ def seeded(fields):
 def surveys():
     """Of each example with a race 200 seeds find more than one end, and mta_sim comes to each of them by its seed's
     schedule."""
-    for name, wishes in RACES.items():
-        yield name, lambda name=name, wishes=wishes: (True, finds_race(name, wishes))
+    for name, expected in RACES.items():
+        yield name, lambda name=name, expected=expected: (True, finds_race(name, expected))
 
 
-def finds_race(name, wishes):
+def finds_race(name, expected):
     source = os.path.join(EXAMPLES, name + ".asm")
-    with tool.made_files(wishes=wishes) as paths:
-        judged = ("--expect", paths["wishes"]) if wishes else ()
+    with tool.made_files(expected=expected) as paths:
+        judged = ("--expect", paths["expected"]) if expected else ()
         printed = lab("survey", source, "--seeds", "200", "--json", *judged).out
     found = [json.loads(line) for line in printed.decode().splitlines()]
     if sum(end["runs"] for end in found) != 200:
@@ -162,7 +162,7 @@ def finds_race(name, wishes):
     image = tool.asm(tool.read(source))
     for end in found:
         trace = tool.trace(image, lab("schedule", "random", source, "--seed", end["seed"]).out)
-        replayed = *lab_worlds.traced_end(trace), lab_worlds.missed_register(trace, wishes)
+        replayed = *lab_worlds.traced_end(trace), lab_worlds.missed_register(trace, expected)
         told = end["end"], end["steps"], lab_worlds.told_words(end["words"]), end["missed"]
         if replayed != told:
             return f"seed {end['seed']}: mta_sim comes to {replayed}, and the survey tells {told}"

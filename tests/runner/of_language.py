@@ -100,6 +100,11 @@ def life():
         session.notify("exit", {})
         yield "exit", (None, 0, []), (session.next(), session.process.wait(), session.kept)
     with client() as session:
+        session.say({"id": 7, "method": "shutdown", "params": None})
+        yield "shutdown with null", {"jsonrpc": "2.0", "id": 7, "result": None}, session.response()
+        session.say({"method": "exit", "params": None})
+        yield "exit with null", (None, 0), (session.next(), session.process.wait())
+    with client() as session:
         session.notify("exit")
         yield "exit without shutdown", 1, session.process.wait()
     for words, status in (([], 1), (["shutdown"], 0)):
@@ -110,6 +115,24 @@ def life():
             yield f"the end of the input after {words}", status, session.process.wait()
     ended = subprocess.run([tool.LAB, "lsp", "more"], capture_output=True, timeout=tool.PATIENCE, check=False)
     yield "a word more", 2, ended.returncode
+
+
+@checks.others("language/cancelled")
+def cancelled():
+    """A request that is cancelled is answered as any other, in its turn, and to the notification itself there is no answer."""
+    def symbols(name):
+        session.say({"id": name, "method": "textDocument/documentSymbol", "params": {"textDocument": {"uri": URI}}})
+
+    with client(TEXT) as session:
+        session.diagnostics()
+        symbols("first")
+        for params in ({"id": "first"}, {"id": 99}, None):
+            session.notify("$/cancelRequest", params)
+        symbols("second")
+        found = [session.response() for _ in range(2)]
+        yield ("each once", ([("first", 6), ("second", 6)], []),
+               ([(it["id"], len(it["result"])) for it in found], session.kept))
+        yield "and nothing more", (0, None), (session.ends(), session.next())
 
 
 @checks.others("language/diagnostics")
@@ -269,6 +292,13 @@ def hover():
         kinds = session.at("hover", *at("QUIT", 10))["contents"]["kind"]
         yield "plain text", "plaintext", kinds
         yield "behind the end", True, session.at("hover", 10, 999)["contents"]["value"].startswith("QUIT")
+    numbers = ((1, "9223372036854775807 = 0x7FFFFFFFFFFFFFFF"),
+               (2, "9223372036854775808 = 0x8000000000000000, signed -9223372036854775808"),
+               (3, "18446744073709551615 = 0xFFFFFFFFFFFFFFFF, signed -1"))
+    with client(" .entry go\n .data 0x7FFFFFFFFFFFFFFF\n .data 0x8000000000000000\n .data 0xFFFFFFFFFFFFFFFF\n"
+                "go: QUIT\n") as session:
+        for line, words in numbers:
+            yield words, words, session.at("hover", line, 9)["contents"]["value"]
 
 
 @checks.others("language/completion")
@@ -276,12 +306,10 @@ def completion():
     """What may be written at a place, and which part of the line it takes the place of."""
     def labels(line, text=TEXT):
         with client(text + line) as session:
-            found = session.at("completion", text.count("\n"), languages.units(line))
-            spans = {(it["textEdit"]["range"]["start"]["character"], it["textEdit"]["range"]["end"]["character"])
-                     for it in found["items"]}
-            if any(it["label"] != it["textEdit"]["newText"] for it in found["items"]):
+            items = session.at("completion", text.count("\n"), languages.units(line))["items"]
+            if any(it["label"] != it["textEdit"]["newText"] for it in items):
                 return "a label is not what is written"
-            return sorted(it["label"] for it in found["items"]), spans
+            return sorted(it["label"] for it in items), replaced(items)
 
     def has(line, *names, span, without=(), text=TEXT):
         found, spans = labels(line, text)
@@ -297,6 +325,17 @@ def completion():
     yield "a register", *has("  ADD r1, ", "r0", "r31", span=(10, 10), without=("t0", "ADD"))
     yield "a target register", *has("  JUMP NE, 0, t", "t0", "t7", span=(14, 15), without=("r1", "t8"))
     yield "nothing in a comment", ([], set()), labels("  ADD r1, r1, r2 ; AD")
+    # the letter takes the units 4 and 5: between them means before it
+    with client("  LO\U0001f600\n") as session:
+        for character, end in ((4, 4), (5, 4), (6, 6)):
+            found = session.at("completion", 0, character)["items"]
+            yield f"at a letter of two units, {character}", {(2, end)}, replaced(found)
+
+
+def replaced(items):
+    """The parts of a line that the items of a completion take the place of."""
+    ranges = [it["textEdit"]["range"] for it in items]
+    return {(it["start"]["character"], it["end"]["character"]) for it in ranges}
 
 
 @checks.others("language/renamed")

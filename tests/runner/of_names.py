@@ -36,7 +36,7 @@ ADDRESSES = {
     24: ("[24]", "ring", "[ring]"), 32: ("[32]", "ring+1", "[ring+1]"),
 }
 # lines of expectations and claims by numbers, and the same by names
-WISHES = (
+EXPECTED = (
     ("word 0 14", "word total 14"), ("word 0 14", "word [total] 14"), ("word 0 14", "  word\t[total] 14"),
     ("words 24..32 0", "words ring..ring+1 0"), ("words 24..32 0", "words [ring]..32 0"), ("sum 0..32 35", "sum total..[ring+1] 35"),
     ("word 0 is word 8 + 7", "word total is word number + 7 # twice"), ("word 16 7 empty", "word box 7 empty"),
@@ -104,10 +104,10 @@ def words_shown():
             yield f"{address} as {way}", lambda check=check: with_folder(check, p_asm=SOURCE)
 
 
-@checks.others("lab/names_in_wishes")
-def wishes():
+@checks.others("lab/names_in_expectations")
+def expectations():
     """Expectations and claims by names judge as those by numbers, and are repeated as they were written."""
-    for plain, named in WISHES:
+    for plain, named in EXPECTED:
         def check(folder):
             calls = (("survey", "p.asm", "--seeds", "20"), ("explore", "p.asm"), ("survey", "p.asm", "--seeds", "3", "--json"))
             both = [[told(lab(folder, *words, "--expect", file)) for words in calls] for file in ("1.x", "2.x")]

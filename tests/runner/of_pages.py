@@ -128,7 +128,7 @@ def pair_as_compared(source, one, other, *options):
 
 
 BOUNDED = ("grading/submissions/racing.asm", "--plain")
-# searches, each by the words behind `explore`, with the file of what is wished where it has one
+# searches, each by the words behind `explore`, with the file of what is required, if it has one
 SEARCHES = {
     "lock.asm": (("lock.asm",), None),
     "race, judged": (("grading/submissions/racing.asm",), b"word 8 4\nnever word 8 is 3\n"),
@@ -150,19 +150,19 @@ OPEN = ("some word 8 is 3", "never busy")
 @checks.others("pages/ends")
 def ends():
     """The page of each end of a search: its name, its steps, and whether the end is as expected."""
-    for name, (words, wished) in SEARCHES.items():
-        yield name, lambda words=words, wished=wished: pages_of_ends(words, wished)
+    for name, (words, required) in SEARCHES.items():
+        yield name, lambda words=words, required=required: pages_of_ends(words, required)
 
 
-def pages_of_ends(words, wished):
-    with tempfile.TemporaryDirectory(prefix="mta-case-") as folder, tool.made_files(wished=wished or b"") as paths:
+def pages_of_ends(words, required):
+    with tempfile.TemporaryDirectory(prefix="mta-case-") as folder, tool.made_files(required=required or b"") as paths:
         made = os.path.join(folder, "new")
-        words = [*words, *(["--expect", paths["wished"]] if wished else [])]
+        words = [*words, *(["--expect", paths["required"]] if required else [])]
         search, *told = map(json.loads, lab("explore", *words, "--pages", made, "--json").out.splitlines())
         got = {name: run_in(tool.read(os.path.join(made, name)).decode()) for name in sorted(os.listdir(made))}
     ends = [end for end in told if end["object"] == "search_end"]
-    whole, is_judged = line_of_the_whole(told), bool(wished) and not leaves_a_line(search, told, wished)
-    wanted = {f"{number}_{end['end']}.html": judged_as(end, wished, whole, is_judged)
+    whole, is_judged = line_of_the_whole(told), bool(required) and not leaves_a_line(search, told, required)
+    wanted = {f"{number}_{end['end']}.html": judged_as(end, required, whole, is_judged)
               for number, end in enumerate(ends, start=1)}
     return wanted, {name: (steps_in(run), run.get("expected"), run.get("missed")) for name, run in got.items()}
 
@@ -227,19 +227,19 @@ def line_of_the_whole(told):
     return lines[0] if lines else None
 
 
-def leaves_a_line(search, told, wished):
+def leaves_a_line(search, told, required):
     """Whether the search does not decide a line that is required of the program as a whole."""
-    is_open = any(line in OPEN for line in wished.decode().splitlines())
+    is_open = any(line in OPEN for line in required.decode().splitlines())
     return any(value["object"] == "undecided" for value in told) or (is_open and not search["complete"])
 
 
-def judged_as(end, wished, whole, is_judged):
+def judged_as(end, required, whole, is_judged):
     """The steps to an end; whether it is as expected, and the line that says that it is not. One that is as expected is not
     judged where a line is left."""
     steps = [f"{p}.{s}" for p, s, count in end["schedule"] for _ in range(count)]
     line = end["missed"] or end["claim"] or (whole if end["expected"] else None)
     expected = end["expected"] and whole is None
-    return steps, expected if wished and (is_judged or not expected) else None, line["text"] if line else None
+    return steps, expected if required and (is_judged or not expected) else None, line["text"] if line else None
 
 
 def steps_in(run):

@@ -30,7 +30,7 @@ KINDS = {
     "survey lock.asm --seeds 5 --expect unshown --json": "outcome* unshown",
     "explore grading/submissions/racing.asm --expect unshown --json": "search search_end* unshown",
     "explore lock.asm --states 50 --json": "search",
-    "explore grading/submissions/racing.asm --expect wishes --json": "search search_end*",
+    "explore grading/submissions/racing.asm --expect expected --json": "search search_end*",
     "explore spins.asm --json": "search search_end",
 }
 
@@ -55,7 +55,7 @@ def objects_of(line):
     with tempfile.TemporaryDirectory(prefix="mta-case-") as folder:
         for path in glob.glob(os.path.join(EXAMPLES, "*")):
             os.symlink(path, os.path.join(folder, os.path.basename(path)))
-        for name, text in (("wishes", CLAIMS), ("claimless", b"word 8 4\n"), ("unshown", b"some word 8 is 77\n"),
+        for name, text in (("expected", CLAIMS), ("claimless", b"word 8 4\n"), ("unshown", b"some word 8 is 77\n"),
                            ("spins.asm", SPINS)):
             tool.write(os.path.join(folder, name), text)
         return [json.loads(text) for text in lab(*line.split(), folder=folder).out.splitlines()]

@@ -7,11 +7,11 @@ import os
 import random
 
 import busy
+import expectations
 import machine
 import programs
 import search
 import shown
-import wishes
 from ends_alone import EndsAlone
 
 # how many worlds a program that is searched has, and how many programs a seed tries to find one
@@ -33,15 +33,15 @@ class Case:
                 break
         else:
             raise ValueError(f"seed {seed}: no program of {LEAST} to {MOST} worlds")
-        self.expected = wishes.expectations(chance, self.made, self.space)
-        self.claims = wishes.claims(chance, self.made) if chance.random() < 0.7 else []
+        self.expected = expectations.random_expectations(chance, self.made, self.space)
+        self.claims = expectations.random_claims(chance, self.made) if chance.random() < 0.7 else []
         self.ends_alone = EndsAlone(self.made.program, (), (), MOST)
-        self.wished_alone = EndsAlone(self.made.program, (), wishes.named(self.expected), MOST,
-                                      wishes.looked_at(self.claims))
+        self.expected_alone = EndsAlone(self.made.program, (), expectations.named(self.expected), MOST,
+                                        expectations.looked_at(self.claims))
         self.begin = begin_of(chance, self.space)
         self.begun = search.Space(self.made.program, self.begin, MOST)
-        self.begun_claims = wishes.claims(chance, self.made)
-        self.begun_alone = EndsAlone(self.made.program, self.begin, (), MOST, wishes.looked_at(self.begun_claims))
+        self.begun_claims = expectations.random_claims(chance, self.made)
+        self.begun_alone = EndsAlone(self.made.program, self.begin, (), MOST, expectations.looked_at(self.begun_claims))
         self.paths = {name: os.path.join(folder, f"{seed}.{name}") for name in ("asm", "expect", "claims", "busy", "schedule")}
         self.write()
 
@@ -64,8 +64,8 @@ class Case:
         return {
             "plain": ["explore", "--json", "--plain", at["asm"]],
             "ends": ["explore", "--json", at["asm"]],
-            "wished": ["explore", "--json", at["asm"], "--expect", at["expect"]],
-            "wished plainly": ["explore", "--json", "--plain", at["asm"], "--expect", at["expect"]],
+            "expected": ["explore", "--json", at["asm"], "--expect", at["expect"]],
+            "expected plainly": ["explore", "--json", "--plain", at["asm"], "--expect", at["expect"]],
             "graded": ["grade", "--explore", "--json", "--expect", at["expect"], at["asm"]],
             "begun": ["explore", "--json", at["asm"], "--from", at["schedule"], "--expect", at["claims"]],
             "begun plainly": ["explore", "--json", "--plain", at["asm"], "--from", at["schedule"], "--expect", at["claims"]],
@@ -78,8 +78,8 @@ class Case:
     def differences(self, answers):
         """In what answers differ from the search: a status and what was printed, by the names of the calls."""
         found = []
-        for name, differ in (("plain", self.of_plain), ("ends", self.of_ends), ("wished", self.of_wished),
-                             ("wished plainly", self.of_wished_plainly), ("graded", self.of_graded),
+        for name, differ in (("plain", self.of_plain), ("ends", self.of_ends), ("expected", self.of_expected),
+                             ("expected plainly", self.of_expected_plainly), ("graded", self.of_graded),
                              ("begun", self.of_begun), ("begun plainly", self.of_begun_plainly),
                              ("never busy", self.of_busy), ("begun, never busy", self.of_begun_busy),
                              ("graded never busy", self.of_graded_busy), ("surveyed", self.of_surveyed)):
@@ -114,16 +114,16 @@ class Case:
         yield from of_each_end(self.space, [], [], ends, self.ends_alone.told_as)
         yield differs("status", status, self.status([], []))
 
-    def of_wished(self, status, head, *objects):
+    def of_expected(self, status, head, *objects):
         """What is expected of ends, and claimed of worlds."""
-        alone, ends = self.wished_alone, ends_of(objects)
+        alone, ends = self.expected_alone, ends_of(objects)
         yield of_unshown(self.space, self.claims, objects)
         yield from of_fewer(alone, head, ends)
         yield from of_each_end(self.space, self.expected, self.claims, ends, alone.told_as)
         yield from of_claims(self.space, self.claims, ends, of_alone(alone, self.space.before))
         yield differs("status", status, self.status(self.expected, self.claims))
 
-    def of_wished_plainly(self, status, head, *objects):
+    def of_expected_plainly(self, status, head, *objects):
         """The same of all worlds."""
         ends = ends_of(objects)
         yield of_unshown(self.space, self.claims, objects)
@@ -199,11 +199,11 @@ class Case:
     def verdict_of(self, expected, claims, is_busy):
         """The same of some expectations and claims, and where a stream goes round alone that may not."""
         ends = self.space.ends()
-        if any(wishes.is_trapped(expected, world) for world in [*ends, *itertools.chain(*self.space.spinning())]):
+        if any(expectations.is_trapped(expected, world) for world in [*ends, *itertools.chain(*self.space.spinning())]):
             return "trap"
         if "deadlock" in ends.values():
             return "deadlock"
-        if any(wishes.missed(expected, world) for world in ends) or broken(self.space, claims) or is_busy:
+        if any(expectations.missed(expected, world) for world in ends) or broken(self.space, claims) or is_busy:
             return "wrong"
         if self.space.spinning():
             return SPINS
@@ -221,9 +221,9 @@ def begin_of(chance, space):
     return tuple(steps)
 
 
-def lines(wished):
+def lines(required):
     """Lines of a file of expectations."""
-    return "".join(line.text + "\n" for line in wished).encode()
+    return "".join(line.text + "\n" for line in required).encode()
 
 
 def differs(what, told, wanted):
@@ -233,12 +233,14 @@ def differs(what, told, wanted):
 
 def broken(space, claims):
     """The claims that some world breaks."""
-    return [claim for claim in claims if any(not wishes.holds(claim, world) for world in [*space.before, *space.distance])]
+    worlds = [*space.before, *space.distance]
+    return [claim for claim in claims if any(not expectations.holds(claim, world) for world in worlds)]
 
 
 def unshown(space, claims):
     """The claims that no world shows."""
-    return [claim for claim in claims if not any(wishes.shows(claim, world) for world in [*space.before, *space.distance])]
+    worlds = [*space.before, *space.distance]
+    return [claim for claim in claims if not any(expectations.shows(claim, world) for world in worlds)]
 
 
 def statuses(space, expected, claims):
@@ -246,10 +248,10 @@ def statuses(space, expected, claims):
     for world, kind in space.ends().items():
         if kind == "deadlock":
             yield search.DEADLOCK
-        elif wishes.is_trapped(expected, world) or wishes.missed(expected, world):
+        elif expectations.is_trapped(expected, world) or expectations.missed(expected, world):
             yield search.UNEXPECTED
     for spinning in space.spinning():
-        is_trapped = any(wishes.is_trapped(expected, world) for world in spinning)
+        is_trapped = any(expectations.is_trapped(expected, world) for world in spinning)
         yield search.UNEXPECTED if is_trapped else search.ENDLESS
     if broken(space, claims) or unshown(space, claims):
         yield search.UNEXPECTED
@@ -274,25 +276,25 @@ def of_each_end(space, expected, claims, ends, told_as=lambda world: world):
         alike[key] = min(alike.get(key, world), world, key=space.distance.get)
     wanted, told = {}, {}
     for world in alike.values():
-        key = space.kind(world), wishes.is_as_expected(expected, world, space.kind(world))
+        key = space.kind(world), expectations.is_as_expected(expected, world, space.kind(world))
         count, least = wanted.get(key, (0, space.distance[world]))
         wanted[key] = count + 1, min(least, space.distance[world])
     for end in ends:
         if end["end"] in ("spinning", "broken"):
             continue
         world = search.world_after(space.program, steps_of(end["schedule"]))
-        key = end["end"], wishes.is_as_expected(expected, world, space.kind(world))
+        key = end["end"], expectations.is_as_expected(expected, world, space.kind(world))
         count, least = told.get(key, (0, end["shortest"]))
         told[key] = count + end["worlds"], min(least, end["shortest"])
-        on_its_way = wishes.broken_on_the_way(space.program, claims, steps_of(end["schedule"]))
+        on_its_way = expectations.broken_on_the_way(space.program, claims, steps_of(end["schedule"]))
         yield differs("the claim of an end", end["claim"] and end["claim"]["text"], on_its_way and on_its_way.text)
         yield differs("whether it is as expected", end["expected"], key[1] and on_its_way is None)
         first = alike.get(told_as(world))
         yield differs("a schedule", (first and space.kind(world), len(steps_of(end["schedule"])), end["shortest"]),
                       (end["end"], first and space.distance[first], first and space.distance[first]))
-        missed = wishes.missed(expected, world)
-        wanted_line = missed and (expected.index(missed) + 1, wishes.numbers_read(missed.text))
-        told_line = end["missed"] and (end["missed"]["line"], wishes.numbers_read(end["missed"]["text"]))
+        missed = expectations.missed(expected, world)
+        wanted_line = missed and (expected.index(missed) + 1, expectations.numbers_read(missed.text))
+        told_line = end["missed"] and (end["missed"]["line"], expectations.numbers_read(end["missed"]["text"]))
         yield differs("what is missed", told_line, wanted_line)
         yield from of_world(space, world, end)
     yield differs("worlds and shortest of the ends", told, wanted)
@@ -308,8 +310,8 @@ def of_world(space, world, end):
 def of_all(space):
     """Of all worlds, how many break a claim, and the steps of a shortest schedule to one."""
     def breaking(claim):
-        before = [at for at, world in enumerate(space.before) if not wishes.holds(claim, world)]
-        found = [space.distance[world] for world in space.distance if not wishes.holds(claim, world)]
+        before = [at for at, world in enumerate(space.before) if not expectations.holds(claim, world)]
+        found = [space.distance[world] for world in space.distance if not expectations.holds(claim, world)]
         return len(before) + len(found), min(before + found, default=None)
     return breaking
 
@@ -318,7 +320,7 @@ def of_alone(alone, before):
     """The same of the worlds that the search for ends alone looks at, behind those on the way through a beginning. That a
     schedule is a shortest one is said where it goes no further than the beginning."""
     def breaking(claim):
-        broken_at = [at for at, world in enumerate([*before, *alone.worlds]) if not wishes.holds(claim, world)]
+        broken_at = [at for at, world in enumerate([*before, *alone.worlds]) if not expectations.holds(claim, world)]
         first = min(broken_at, default=None)
         return len(broken_at), first if broken_at and first <= len(before) else None
     return breaking
@@ -344,7 +346,7 @@ def of_claims(space, claims, ends, breaking):
         if end["end"] == "broken":
             world = search.world_after(space.program, steps_of(end["schedule"]))
             claim = next(claim for claim in claims if claim.text == end["claim"]["text"])
-            yield differs("a world that breaks it", wishes.holds(claim, world), False)
+            yield differs("a world that breaks it", expectations.holds(claim, world), False)
 
 
 def status_of_busy(space):

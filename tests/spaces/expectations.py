@@ -30,7 +30,7 @@ BEYOND = {("below", 0, False), ("above", 2**64 - 1, False), ("below", -2**63, Tr
 SCOPES = ("always", "never", "some", "some")
 
 
-def expectations(chance, made, space):
+def random_expectations(chance, made, space):
     """A few expectations, such as some end of the program may meet."""
     found = []
     ends = list(space.ends())
@@ -81,32 +81,32 @@ def is_met(expectation, world):
     return search.stopped(world).get((p, s)) == trap
 
 
-def named(wished):
+def named(expected):
     """The registers that some expectations name."""
-    return {expectation.operands[2] for expectation in wished if expectation.form == "register"}
+    return {expectation.operands[2] for expectation in expected if expectation.form == "register"}
 
 
-def missed(wished, world):
+def missed(expected, world):
     """The first expectation that a world does not meet; None where it meets all."""
-    return next((expectation for expectation in wished if not is_met(expectation, world)), None)
+    return next((expectation for expectation in expected if not is_met(expectation, world)), None)
 
 
-def is_trapped(wished, world):
+def is_trapped(expected, world):
     """Whether a trap that nobody expected stopped a stream."""
-    wanted = {expectation.operands for expectation in wished if expectation.form == "stopped"}
+    wanted = {expectation.operands for expectation in expected if expectation.form == "stopped"}
     return any((p, s, trap) not in wanted for (p, s), trap in search.stopped(world).items())
 
 
-def is_as_expected(wished, world, kind):
+def is_as_expected(expected, world, kind):
     """Whether an end of a kind is no deadlock, meets each expectation, and has no trap that nobody expected."""
-    return kind != "deadlock" and missed(wished, world) is None and not is_trapped(wished, world)
+    return kind != "deadlock" and missed(expected, world) is None and not is_trapped(expected, world)
 
 
-def broken_on_the_way(program, wished, steps):
+def broken_on_the_way(program, claimed, steps):
     """The first of some claims that the first world breaks which breaks one and through which a schedule leads; None where
     all hold."""
     worlds = (search.world_after(program, steps[:count]) for count in range(len(steps) + 1))
-    return next((claim for world in worlds for claim in wished if not holds(claim, world)), None)
+    return next((claim for world in worlds for claim in claimed if not holds(claim, world)), None)
 
 
 def numbers_read(text):
@@ -122,7 +122,7 @@ def number(word):
         return word
 
 
-def claims(chance, made):
+def random_claims(chance, made):
     """A few claims."""
     return [at_most(chance, made) if chance.random() < 0.35 else of_word(chance, made)
             for _ in range(chance.choice((1, 1, 2)))]
