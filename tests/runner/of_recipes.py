@@ -1,7 +1,7 @@
 """The recipes of docs/GRADING.md ("Where your course lives", "A cluster"), taken from the document as they stand, each in what
 its system does with it: the files, the limits, the shell, the words that the system reads. What is wanted was worked out by
 hand from LAB_REFERENCE.md ("Judging a class") and from what the systems document; none of the systems is here. GNU parallel is
-asked where it is installed. tests/recipes has those that take a bare system, a cluster or a spreadsheet."""
+asked if it is installed. tests/recipes has those that take a bare system, a cluster or a spreadsheet."""
 
 import csv
 import io
@@ -16,7 +16,7 @@ import tempfile
 import checks
 import table
 import tool
-from of_grades import RIGHT, lab, made
+from of_grades import COUNTING, RIGHT, lab, made
 
 GRADING = os.path.join(table.ROOT, "docs/GRADING.md")
 EXAMPLES = os.path.join(table.ROOT, "examples/grading")
@@ -338,19 +338,42 @@ def by_array():
         yield "killed", 137, task(folder, 1)
 
 
+# in place of the lab: of the third of eight parts two results are kept, and then it is killed, the first time
+KILLED_ONCE = """#!/bin/bash
+if [[ " $* " != *" --part 3/8 "* ]] || ! mkdir once 2>errors; then exec '{lab}' "$@"; fi
+'{lab}' "$@" &
+until [ -e part.3.jsonl ] && [ "$(wc -l <part.3.jsonl)" -ge 3 ]; do sleep 0.02; done
+kill -KILL $!
+wait $!
+"""
+
+
 @checks.others("recipes/parallel")
 def by_parallel():
-    """GNU parallel with one host, this one: the parts make the table of one call."""
+    """The parts make the table of one call. What a part does not have that was killed is named, and it goes on."""
     if not shutil.which("parallel"):
+        checks.passed_over("recipes/parallel", "parallel")
         return
     with tempfile.TemporaryDirectory(prefix="mta-case-") as folder:
         made(folder, "wanted.expect", b"word 0 1\n")
         made(folder, "hosts", b"4/:\n")
+        made(folder, "bin/mta_lab", KILLED_ONCE.format(lab=tool.LAB).encode())
+        os.chmod(os.path.join(folder, "bin/mta_lab"), 0o755)
+        made(folder, "parallel.sh", recipe("With GNU parallel", "sh").encode())
         names = [f"submissions/s{number:02}.asm" for number in range(19)]
         for number, name in enumerate(names):
             made(folder, name, b"; %d\n" % number + (RIGHT if number % 3 else b"QUITE\n"))
-        made(folder, "parallel.sh", recipe("With GNU parallel", "sh").encode())
-        ended = shell(folder, "parallel.sh")
         wanted = lab("grade", "--explore", "--jobs", "1", "--expect", "wanted.expect", *names, folder=folder)
+        # (the last submission of the third part comes to new states for as long as it takes)
+        last = names[2::8][2]
+        text = tool.read(os.path.join(folder, last))
+        made(folder, last, COUNTING)
+        ended = shell(folder, "parallel.sh")
+        yield "killed: the status", "status 1", ended.stdout.decode().splitlines()[-1]
+        yield "killed: what is missing", f"mta_lab: {last}: no file of results has it", ended.stderr.decode().splitlines()[-1]
+        rows = [row for row in wanted.out.splitlines(keepends=True) if not row.startswith(last.encode())]
+        yield "killed: the table", b"".join(rows), tool.read(os.path.join(folder, "grades.tsv"))
+        made(folder, last, text)
+        ended = shell(folder, "parallel.sh")
         yield "the table", wanted.out, tool.read(os.path.join(folder, "grades.tsv"))
         yield "the status", f"status {wanted.status}", ended.stdout.decode().splitlines()[-1]
