@@ -258,6 +258,11 @@ def by_gradescope():
             yield f"{who}: score", (points, 5), (sum(it["score"] for it in tests), sum(it["max_score"] for it in tests))
             yield f"{who}: a hidden value", [], leaks(json.dumps([it for it in tests if it["visibility"] == "visible"]))
             yield f"{who}: any value", [], leaks(json.dumps(results))
+    with tempfile.TemporaryDirectory(prefix="mta-case-") as folder:
+        cases_in(folder, "some word 8 is 77\n")
+        status, results = gradescope(folder, {"a.asm": DOUBLE})
+        scores = {test["name"]: test.get("score") for test in results["tests"]}
+        yield "not decided", (0, 3, {"hidden": 3, "seen": None}), (status, results.get("score"), scores)
     for files in ({}, {"a.asm": DOUBLE, "b.asm": DOUBLE}, {"a.txt": DOUBLE}):
         with tempfile.TemporaryDirectory(prefix="mta-case-") as folder:
             cases_in(folder)
