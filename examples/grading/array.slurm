@@ -11,4 +11,5 @@ parts=${PARTS:-$SLURM_ARRAY_TASK_COUNT}
 status=0
 mta_lab grade --explore --seconds 120 --memory 500 --jobs 1 --expect wanted.expect \
   --part "$part/$parts" --results "part.$part.jsonl" submissions/*.asm >"part.$part.txt" || status=$?
-[ "$status" -le 5 ] # a status up to 5 says how the submissions are; the task has failed if mta_lab was killed
+# 0, 3, 4 and 5 say how the submissions are; else the task has failed: an error of yours, a full disk, or mta_lab was killed
+case $status in 0 | 3 | 4 | 5) ;; *) exit "$status" ;; esac

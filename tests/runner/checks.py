@@ -12,6 +12,11 @@ A case holds where what it wants is what it got."""
 EACH, WHOLE, OTHERS = {}, {}, {}
 
 
+def passed_over(name, program):
+    """Says that cases are passed over, since a program is not installed."""
+    print(f"{name}: not run, since {program} is not here", flush=True)
+
+
 def each(file):
     return lambda check: EACH.setdefault(file, check)
 

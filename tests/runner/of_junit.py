@@ -68,6 +68,7 @@ def reader():
 def by_schema():
     """xmllint finds each report right by the schema, and one with another element wrong."""
     if not shutil.which("xmllint"):
+        checks.passed_over("grade/junit_by_schema", "xmllint")
         return
     for words in ((), ("--explore",), ("--thorough",)):
         with tempfile.TemporaryDirectory(prefix="mta-case-") as folder:
@@ -85,6 +86,7 @@ def by_library():
     """The library reads the suites, their counts, and what each case came to."""
     python = reader()
     if python is None:
+        checks.passed_over("grade/junit_by_library", "junitparser")
         return
     with tempfile.TemporaryDirectory(prefix="mta-case-") as folder:
         report = class_in(folder)

@@ -1,7 +1,7 @@
 """The recipes of docs/GRADING.md ("Where your course lives", "A cluster"), taken from the document as they stand, each in what
 its system does with it: the files, the limits, the shell, the words that the system reads. What is wanted was worked out by
 hand from LAB_REFERENCE.md ("Judging a class") and from what the systems document; none of the systems is here. GNU parallel is
-asked where it is installed. tests/recipes has those that take a bare system, a cluster or a spreadsheet."""
+asked if it is installed. tests/recipes has those that take a bare system, a cluster or a spreadsheet."""
 
 import csv
 import io
@@ -16,7 +16,7 @@ import tempfile
 import checks
 import table
 import tool
-from of_grades import RIGHT, lab, made
+from of_grades import COUNTING, RIGHT, lab, made
 
 GRADING = os.path.join(table.ROOT, "docs/GRADING.md")
 EXAMPLES = os.path.join(table.ROOT, "examples/grading")
@@ -72,12 +72,29 @@ def leaks(text):
     return [value for value in HIDDEN if value in text]
 
 
+# in place of the lab: it is killed when all that a student would get is written, but for the end of what it prints
+KILLED = """#!/bin/bash
+mkdir -p back
+echo 'answer.asm: right, 5 of 5 points' >back/answer.txt
+printf '{"tests":['
+kill -KILL $$
+"""
+
+
+def killed_in(folder):
+    """The path of a program that is called mta_lab and is killed."""
+    path = os.path.join(folder, "bin/mta_lab")
+    made(folder, "bin/mta_lab", KILLED.encode())
+    os.chmod(path, 0o755)
+    return path
+
+
 # VPL: vpl_evaluate.sh makes vpl_execution, which runs after the files of the teacher are gone that are not to be kept. A line
 # `Grade :=>>` is the grade, lines `Comment :=>>` are shown; the last grade counts.
 
-def vpl(folder, source, name="answer.asm", kept=("mta_lab", "cases")):
-    """The status, the grade and the comments of a submission."""
-    shutil.copy(tool.LAB, os.path.join(folder, "mta_lab"))
+def vpl(folder, source, name="answer.asm", program=tool.LAB):
+    """The status, the grade, the comments and the other lines of a submission."""
+    shutil.copy(program, os.path.join(folder, "mta_lab"))
     os.chmod(os.path.join(folder, "mta_lab"), 0o600)
     made(folder, name, source.encode())
     made(folder, "vpl_environment.sh", f"#!/bin/bash\nexport VPL_SUBFILE0={name!r}\n".encode())
@@ -118,9 +135,10 @@ def by_vpl():
     with tempfile.TemporaryDirectory(prefix="mta-case-") as folder:
         cases_in(folder)
         made(folder, "cases/seen.expect", b"wrod 8 6\n")
-        status, grade, comments, others = vpl(folder, ANSWER)
-        yield "a teacher's error", (1, None, ""), (status, grade, comments)
-        yield "a teacher's error is said", True, others.startswith("cases/seen.expect:1:1: error: ")
+        yield "a teacher's error", (1, None, "", "cases/seen.expect:1:1\nno grade: status 1"), vpl(folder, ANSWER)
+    with tempfile.TemporaryDirectory(prefix="mta-case-") as folder:
+        cases_in(folder)
+        yield "killed", (1, None, "", "no grade: status 137"), vpl(folder, ANSWER, program=killed_in(folder))
 
 
 # CodeRunner: the template is filled in by Twig, whose e('py') writes \ and " with a \ before them, and is run by Jobe, with
@@ -166,7 +184,27 @@ def by_coderunner():
         cases_in(folder)
         made(folder, "cases/seen.expect", b"wrod 8 6\n")
         ended = coderunner(folder, ANSWER)
-        yield "a teacher's error", (1, b"", True), (ended.returncode, ended.stdout, b"cases/seen.expect:1:1: error: " in ended.stderr)
+        yield "a teacher's error", (1, b"", b"no mark: status 1, cases/seen.expect:1:1\n"), (
+            ended.returncode, ended.stdout, ended.stderr)
+    with tempfile.TemporaryDirectory(prefix="mta-case-") as folder:
+        cases_in(folder)
+        killed_in(folder)
+        ended = coderunner(folder, ANSWER)
+        yield "killed", (1, b"", b"no mark: status -9, mta_lab has failed\n"), (ended.returncode, ended.stdout, ended.stderr)
+
+
+@checks.others("recipes/teachers_error")
+def errors_of_hidden_cases():
+    """An error in a file of a hidden case shows the student where it is, and no value of the case."""
+    for file, text in (("hidden.expect", b"wrod 8 154002\npoints 3\nhidden\n"), ("hidden.data", b" .data 77001 154002\n")):
+        for how in (vpl, coderunner):
+            with tempfile.TemporaryDirectory(prefix="mta-case-") as folder:
+                cases_in(folder)
+                made(folder, f"cases/{file}", text)
+                found = how(folder, ANSWER)
+                shown = "\n".join(map(str, found)) if how is vpl else (found.stdout + found.stderr).decode()
+                yield f"{how.__name__}, {file}: where", True, f"cases/{file}:1" in shown or shown
+                yield f"{how.__name__}, {file}: values", [], leaks(shown)
 
 
 # GitHub: `run` is a line for bash -e; a job fails if one of its steps does.
@@ -193,13 +231,13 @@ def by_github():
 
 # Gradescope: run_autograder with its folders, and the results that it leaves.
 
-def gradescope(folder, files):
+def gradescope(folder, files, program=tool.LAB):
     """The status of run_autograder for these files of a student, and the results; None where there are none."""
     base = os.path.join(folder, "autograder")
     os.makedirs(os.path.join(base, "submission"), exist_ok=True)
     os.makedirs(os.path.join(base, "source"), exist_ok=True)
     shutil.copytree(os.path.join(folder, "cases"), os.path.join(base, "source/cases"), dirs_exist_ok=True)
-    shutil.copy(tool.LAB, os.path.join(base, "source/mta_lab"))
+    shutil.copy(program, os.path.join(base, "source/mta_lab"))
     shutil.copy(os.path.join(EXAMPLES, "run_autograder"), base)
     for name, text in files.items():
         made(base, f"submission/{name}", text.encode())
@@ -220,6 +258,11 @@ def by_gradescope():
             yield f"{who}: score", (points, 5), (sum(it["score"] for it in tests), sum(it["max_score"] for it in tests))
             yield f"{who}: a hidden value", [], leaks(json.dumps([it for it in tests if it["visibility"] == "visible"]))
             yield f"{who}: any value", [], leaks(json.dumps(results))
+    with tempfile.TemporaryDirectory(prefix="mta-case-") as folder:
+        cases_in(folder, "some word 8 is 77\n")
+        status, results = gradescope(folder, {"a.asm": DOUBLE})
+        scores = {test["name"]: test.get("score") for test in results["tests"]}
+        yield "not decided", (0, 3, {"hidden": 3, "seen": None}), (status, results.get("score"), scores)
     for files in ({}, {"a.asm": DOUBLE, "b.asm": DOUBLE}, {"a.txt": DOUBLE}):
         with tempfile.TemporaryDirectory(prefix="mta-case-") as folder:
             cases_in(folder)
@@ -228,6 +271,9 @@ def by_gradescope():
         cases_in(folder)
         made(folder, "cases/seen.expect", b"wrod 8 6\n")
         yield "a teacher's error", (1, None), gradescope(folder, {"a.asm": DOUBLE})
+    with tempfile.TemporaryDirectory(prefix="mta-case-") as folder:
+        cases_in(folder)
+        yield "killed", (137, None), gradescope(folder, {"a.asm": DOUBLE}, program=killed_in(folder))
 
 
 # Moodle: the import of a grading worksheet looks for the columns Identifier, Grade and Last modified (grade), and for that of
@@ -271,19 +317,68 @@ def by_moodle():
         yield "no formula", [], re.findall(r'(?:^|,)"[=+@-](?!")[^"]*"', printed, re.MULTILINE)
 
 
+# A cluster: a task of the array without Slurm, and GNU parallel with one host, this one.
+
+def task(folder, number, count=2):
+    """The status of a task of examples/grading/array.slurm, as Slurm sees it."""
+    shutil.copy(os.path.join(EXAMPLES, "array.slurm"), folder)
+    known = {"SLURM_ARRAY_TASK_ID": str(number), "SLURM_ARRAY_TASK_COUNT": str(count)}
+    return shell(folder, "array.slurm", **known).returncode
+
+
+@checks.others("recipes/array")
+def by_array():
+    """A task has failed exactly if not all of its part was judged: an error of the teacher's, a part that there is not, a program
+    that is killed."""
+    with tempfile.TemporaryDirectory(prefix="mta-case-") as folder:
+        made(folder, "wanted.expect", b"word 0 1\n")
+        for number, text in enumerate((RIGHT, b"QUITE\n", RIGHT)):
+            made(folder, f"submissions/s{number}.asm", b"; %d\n" % number + text)
+        yield "tasks", (0, 0), (task(folder, 1), task(folder, 2))
+        yield "a part that there is not", 1, task(folder, 0)
+        made(folder, "wanted.expect", b"wrod 0 1\n")
+        yield "a teacher's error", 1, task(folder, 1)
+        os.remove(os.path.join(folder, "bin/mta_lab"))
+        killed_in(folder)
+        yield "killed", 137, task(folder, 1)
+
+
+# in place of the lab: of the third of eight parts two results are kept, and then it is killed, the first time
+KILLED_ONCE = """#!/bin/bash
+if [[ " $* " != *" --part 3/8 "* ]] || ! mkdir once 2>errors; then exec '{lab}' "$@"; fi
+'{lab}' "$@" &
+until [ -e part.3.jsonl ] && [ "$(wc -l <part.3.jsonl)" -ge 3 ]; do sleep 0.02; done
+kill -KILL $!
+wait $!
+"""
+
+
 @checks.others("recipes/parallel")
 def by_parallel():
-    """GNU parallel with one host, this one: the parts make the table of one call."""
+    """The parts make the table of one call. What a part does not have that was killed is named, and it goes on."""
     if not shutil.which("parallel"):
+        checks.passed_over("recipes/parallel", "parallel")
         return
     with tempfile.TemporaryDirectory(prefix="mta-case-") as folder:
         made(folder, "wanted.expect", b"word 0 1\n")
         made(folder, "hosts", b"4/:\n")
+        made(folder, "bin/mta_lab", KILLED_ONCE.format(lab=tool.LAB).encode())
+        os.chmod(os.path.join(folder, "bin/mta_lab"), 0o755)
+        made(folder, "parallel.sh", recipe("With GNU parallel", "sh").encode())
         names = [f"submissions/s{number:02}.asm" for number in range(19)]
         for number, name in enumerate(names):
             made(folder, name, b"; %d\n" % number + (RIGHT if number % 3 else b"QUITE\n"))
-        made(folder, "parallel.sh", recipe("With GNU parallel", "sh").encode())
-        ended = shell(folder, "parallel.sh")
         wanted = lab("grade", "--explore", "--jobs", "1", "--expect", "wanted.expect", *names, folder=folder)
+        # (the last submission of the third part comes to new states for as long as it takes)
+        last = names[2::8][2]
+        text = tool.read(os.path.join(folder, last))
+        made(folder, last, COUNTING)
+        ended = shell(folder, "parallel.sh")
+        yield "killed: the status", "status 1", ended.stdout.decode().splitlines()[-1]
+        yield "killed: what is missing", f"mta_lab: {last}: no file of results has it", ended.stderr.decode().splitlines()[-1]
+        rows = [row for row in wanted.out.splitlines(keepends=True) if not row.startswith(last.encode())]
+        yield "killed: the table", b"".join(rows), tool.read(os.path.join(folder, "grades.tsv"))
+        made(folder, last, text)
+        ended = shell(folder, "parallel.sh")
         yield "the table", wanted.out, tool.read(os.path.join(folder, "grades.tsv"))
         yield "the status", f"status {wanted.status}", ended.stdout.decode().splitlines()[-1]

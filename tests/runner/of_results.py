@@ -6,6 +6,7 @@ import json
 import os
 import random
 import re
+import resource
 import signal
 import subprocess
 import tempfile
@@ -13,6 +14,7 @@ import time
 
 import checks
 import tool
+from of_bounds import WIPED, with_terminal
 from of_grades import RACING, RIGHT, WRONG, lab, made
 
 # a turn that nobody ends: each run of a seed goes to its last step
@@ -26,6 +28,8 @@ on: SUB.T r1, r1, 1
  QUIT
 """
 HEAD = b"submission\tverdict\twhy\n"
+# the line that shows on a terminal how far a class of five is
+REACHED = re.compile(rb"\r(\d+) of 5 judged, (\d+) not decided, jobs (\d+), (\d+) s\x1b\[K")
 
 
 def class_in(folder, count):
@@ -70,8 +74,9 @@ def stopped_and_resumed():
         wanted = lab(*call, *sorted(names), folder=folder)
         seconds = time.monotonic() - start
         draw = random.Random(75)
-        stops = [stopped(folder, [*call, "--results", "r.jsonl", *names], draw.random() * seconds * 0.4) for _ in range(10)]
-        yield "some were stopped", True, any(stops)
+        # (a call goes on where the one before it was stopped: ten times a tenth of the time on average come to all of it)
+        stops = [stopped(folder, [*call, "--results", "r.jsonl", *names], draw.random() * seconds * 0.2) for _ in range(10)]
+        yield "several were stopped", True, sum(stops) >= 3 or stops
         before = len(lines_of(folder, "r.jsonl")) if os.path.exists(os.path.join(folder, "r.jsonl")) else 0
         ended = lab(*call, "--results", "r.jsonl", *names, folder=folder)
         yield "the table", (wanted.status, wanted.out), (ended.status, ended.out)
@@ -156,7 +161,7 @@ def parts():
     with tempfile.TemporaryDirectory(prefix="mta-case-") as folder:
         names = class_in(folder, 31)
         call = ["grade", "--expect", "w.expect", "--seeds", "8"]
-        several = ("text", "tsv", "json", "junit", "gradescope")
+        several = ("text", "tsv", "json", "junit", "gradescope", "moodle")
         wanted = {form: lab(*call, "--format", form, *sorted(names), folder=folder) for form in several}
         files = [f"p{number}.jsonl" for number in range(1, 5)]
         for number, file in enumerate(files, 1):
@@ -222,3 +227,122 @@ def as_dealt():
             ended.status, ended.out.splitlines()[1:])
         kept = [json.loads(line)["submission"] for line in lines_of(folder, "r.jsonl")[1:]]
         yield "as they were decided", ([names[0]], sorted(names)), (kept[-1:], sorted(kept))
+
+
+def seeds_of_a_second(folder):
+    """By how many seeds a submission is judged that takes more than a second here: a power of two."""
+    made(folder, "long.asm", LONG)
+    made(folder, "long.expect", b"word 0 1\n")
+    for seeds in (2 ** power for power in range(16)):
+        begin = time.monotonic()
+        lab("grade", "--expect", "long.expect", "--seeds", str(seeds), "--steps", "1000000", "long.asm", folder=folder)
+        if time.monotonic() - begin > 1:
+            break
+    return str(seeds)
+
+
+@checks.others("grade/progress")
+def progress():
+    """On a terminal a line shows how many have their rows, how many of these are not decided, the jobs and the seconds, with
+    one job and with several; it is wiped. Elsewhere there is none."""
+    with tempfile.TemporaryDirectory(prefix="mta-case-") as folder:
+        made(folder, "w.expect", b"word 0 1\nsome word 8 is 1\n")
+        names = [os.path.join(folder, f"s{number}.asm") for number in range(5)]
+        # (the first one has no state that `some` asks for, so it is not decided)
+        for number, text in enumerate((RIGHT, LONG, LONG, LONG, RIGHT)):
+            second = b" .data 1\n .data %d ; of %d\n" % (min(number, 1), number)
+            made(folder, names[number], text.replace(b" .data 1\n", second))
+        call = ["grade", "--expect", os.path.join(folder, "w.expect"), "--seeds", seeds_of_a_second(folder), "--steps", "1000000",
+                "--jobs"]
+        elsewhere = lab(*call, "2", *names, folder=folder)
+        verdicts = [line.split(b"\t")[1] for line in elsewhere.out.splitlines()[1:]]
+        yield "verdicts", [b"not decided", *[b"right"] * 4], verdicts
+        yield "no terminal", b"", elsewhere.err
+        for jobs in (1, 2):
+            status, out, written = with_terminal(*call, str(jobs), *names)
+            yield f"{jobs}: the table", (elsewhere.status, elsewhere.out), (status, out)
+            lines = [tuple(map(int, line)) for line in REACHED.findall(written)]
+            yield f"{jobs}: there are some", True, bool(lines)
+            done, seconds = [line[0] for line in lines], [line[3] for line in lines]
+            yield f"{jobs}: done and seconds rise", (sorted(done), sorted(set(seconds))), (done, seconds)
+            yield f"{jobs}: not decided, and jobs", {(True, jobs)}, {(line[1] == min(line[0], 1), line[2]) for line in lines}
+            yield f"{jobs}: nothing else", b"", REACHED.sub(b"", written).replace(WIPED, b"")
+            yield f"{jobs}: it is wiped", True, written.endswith(WIPED)
+
+
+def processor_seconds(folder, words):
+    """What a call of the lab prints, and how many seconds of a processor it takes."""
+    with subprocess.Popen([tool.LAB, *words], cwd=folder, stdout=subprocess.PIPE, stderr=subprocess.DEVNULL) as process:
+        out = process.stdout.read()
+        _, status, usage = os.wait4(process.pid, 0)
+        process.returncode = os.waitstatus_to_exitcode(status)
+    return out, usage.ru_utime + usage.ru_stime
+
+
+@checks.others("grade/same_texts")
+def same_texts():
+    """Submissions of the same bytes are judged once: twenty of them take about as much of a processor as one."""
+    with tempfile.TemporaryDirectory(prefix="mta-case-") as folder:
+        made(folder, "w.expect", b"word 0 1\n")
+        names = [f"s{number:02}.asm" for number in range(20)]
+        for name in names:
+            made(folder, name, LONG)
+        call = ["grade", "--expect", "w.expect", "--seeds", "6", "--steps", "1000000", "--jobs"]
+        _, once = processor_seconds(folder, [*call, "1", names[0]])
+        for jobs in ("1", "3"):
+            out, spent = processor_seconds(folder, [*call, jobs, *names])
+            yield f"{jobs}: rows", [name.encode() + b"\tright\t6 seeds" for name in names], out.splitlines()[1:]
+            yield f"{jobs}: once", True, spent < 4 * once or (spent, once)
+
+
+def filled(limit):
+    """In a new process: a file takes so many bytes, and a write past them is refused, as on a full disk."""
+    signal.signal(signal.SIGXFSZ, signal.SIG_IGN)
+    resource.setrlimit(resource.RLIMIT_FSIZE, (limit, limit))
+
+
+@checks.others("grade/full_disk")
+def full_disk():
+    """A disk that refuses a result ends the call with status 1 and says so; the same line again goes on where it stopped."""
+    with tempfile.TemporaryDirectory(prefix="mta-case-") as folder:
+        names = class_in(folder, 24)
+        call = ["grade", "--expect", "w.expect", "--seeds", "4", "--jobs", "1"]
+        wanted = lab(*call, *sorted(names), folder=folder)
+        lab(*call, "--results", "whole.jsonl", *names, folder=folder)
+        size = os.path.getsize(os.path.join(folder, "whole.jsonl"))
+        counts = [0]
+        for limit in (size // 3, size // 3 * 2):
+            ended = subprocess.run([tool.LAB, *call, "--results", "r.jsonl", *names], cwd=folder, capture_output=True,
+                                   preexec_fn=lambda: filled(limit), timeout=tool.PATIENCE, check=False)
+            said = ended.stderr.splitlines()[-1:]
+            yield f"{limit}: it is said", (1, True), (ended.returncode, bool(said) and said[0].startswith(b"mta_lab: r.jsonl: "))
+            yield f"{limit}: rows of before", True, wanted.out.startswith(ended.stdout) and len(ended.stdout) > len(HEAD)
+            counts.append(sum(whole(line) for line in lines_of(folder, "r.jsonl")))
+        yield "more and more is kept", sorted({*counts, 25}), [*counts, 25]
+        ended = lab(*call, "--results", "r.jsonl", *names, folder=folder)
+        yield "it goes on", (wanted.status, wanted.out), (ended.status, ended.out)
+        merged = lab("grade", "--merge", "r.jsonl", folder=folder)
+        yield "merged", (wanted.status, wanted.out), (merged.status, merged.out)
+
+
+@checks.others("grade/texts_again")
+def texts_again():
+    """Results that are taken from a file have the texts and pages for students of a call that judges; none of these has a word
+    of another submission."""
+    own = {"ann": b"70001", "bob": b"80002"}
+    with tempfile.TemporaryDirectory(prefix="mta-case-") as folder:
+        made(folder, "w.expect", b"word 0 1\n")
+        for name, number in own.items():
+            made(folder, f"{name}.asm", b" .entry go\n .data 2 ; of %s\ngo: LIT r1, %s\n STORE.N r1, r0, 0\n QUIT\n" % (
+                name.encode(), number))
+        call = ("grade", "--expect", "w.expect", "--seeds", "2", "--results", "r.jsonl", "ann.asm", "bob.asm")
+        for to in ("first", "second"):
+            lab(*call, "--feedback", to, folder=folder)
+        yield "nothing is judged again", 3, len(lines_of(folder, "r.jsonl"))
+        for name, number in own.items():
+            others = [word for other in own if other != name for word in (other.encode(), own[other])]
+            for end in ("txt", "html"):
+                once, again = (tool.read(os.path.join(folder, to, f"{name}.{end}")) for to in ("first", "second"))
+                yield f"{name}.{end}", once, again
+                yield f"{name}.{end}: its own", True, number in once
+                yield f"{name}.{end}: of the other one", [], [word for word in others if word in once]
