@@ -78,7 +78,7 @@ limits_of (Some bounds) = Some (record { worlds = bounds.worlds; seconds = bound
 pub record IsFoundWithin (limits : SearchLimits) (image : ImageValue) (required : Requirements) (found : Explored)
     : Type 0 where
   pub search : ProgramSearch
-  pub required : search.required.now ≡ required
+  pub asked : search.required.now ≡ required
   pub begin : search.begin.now ≡ []
   pub worlds : search.bounds.worlds ≡ limits.worlds
   pub seconds : search.bounds.seconds ≡ limits.seconds
@@ -94,7 +94,7 @@ pub record IsShownByEnd (limits : Option SearchLimits) (image : ImageValue) (req
     (ends : List SpaceEnd) (kind : VerdictKind) (place : ℕ) : Type 0 where
   pub found : Explored
   pub search : IsFound limits image required found
-  pub ends : found.ends.items ≡ ends
+  pub listed : found.ends.items ≡ ends
   pub flaw : EndFlaw
   pub end : ShowsAt ends flaw place
   pub verdict : kind ≡ kind_of_end flaw
