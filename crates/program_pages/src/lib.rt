@@ -5,7 +5,7 @@ mod expected_texts;
 mod play_pages;
 mod played_programs;
 mod replays;
-mod too_large;
+mod unmade_pages;
 
 pub use play_pages::{PlayPage, page_of_schedules, play_page};
 pub use played_programs::{PageChoices, PlayedProgram, page_bounds};
@@ -13,4 +13,4 @@ pub use replays::replay_page;
 pub use schedule_page::{ends_of_space, goals, states};
 pub use search_texts as search_words;
 pub use search_texts::{ends_in_words, searches};
-pub use too_large::too_large;
+pub use unmade_pages::too_large;
