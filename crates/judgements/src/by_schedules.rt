@@ -1,6 +1,6 @@
 //! What every schedule says of a submission.
 
-ghost use Rattle.std.specs.Prelude.{◌≡◌, IsTrue, IfOk, Some};
+ghost use Rattle.std.specs.Prelude.{◌≡◌, IsTrue, IfOk, Some, []};
 ghost use Rattle.judgements.specs.Right.{IsRightBySchedules};
 ghost use Rattle.judgements.specs.Shown.{JudgedAs, IsFound, IsLeftOpen, IsShownBy, IsShownFor, IsShownWithin, judged_within, limits_of};
 
@@ -56,11 +56,11 @@ pub(crate) fn judged_by_schedules<X: Threads + Sync, C: Clock, E: Write>(
         (judged_within (Some bounds) asked judged.entry.image.now judged.entry.required.now) j) }
 {
     let searched = searched(alloc, bounds, judged, console)?;
-    if searched.judgement.kind != VerdictKind::NotDecided {
-        return Ok(searched.judgement);
+    if searched.judgement.kind.is_not_decided() {
+        let sampled = judged_by_seeds(rt, alloc, asked, judged.image, judged.required)?;
+        return Ok(undecided(sampled, searched));
     }
-    let sampled = judged_by_seeds(rt, alloc, asked, judged.image, judged.required)?;
-    Ok(undecided(sampled, searched))
+    Ok(searched.judgement)
 }
 
 /// What a search of a program that goes so far says of it.
@@ -76,12 +76,7 @@ pub(crate) fn searched<C: Clock, E: Write>(
     ensures left { IfOk result (λ s. s.judgement.kind ≡ VerdictKind.NotDecided
         → IsLeftOpen (limits_of (Some bounds)) judged.entry.image.now judged.entry.required.now) }
 {
-    let search = ProgramSearch {
-        required: judged.required,
-        begin: &[],
-        bounds,
-        is_plain: false,
-    };
+    let search = search_of(bounds, judged);
     let found = explore_program(alloc, judged.image, &search, console)?;
     let is_shown = found.unshown.is_none();
     let judgement = judged_by_search(alloc, found);
@@ -89,6 +84,20 @@ pub(crate) fn searched<C: Clock, E: Write>(
         judgement,
         is_shown,
     })
+}
+
+/// A search among all schedules of a program that goes so far.
+fn search_of<'a>(bounds: Bounds, judged: JudgedProgram<'a>) -> ProgramSearch<'a>
+    ensures required { result.required.now ≡ judged.entry.required.now }
+    ensures begin { result.begin.now ≡ [] }
+    ensures bounds { result.bounds ≡ bounds }
+{
+    ProgramSearch {
+        required: judged.required,
+        begin: &[],
+        bounds,
+        is_plain: false,
+    }
 }
 
 /// What a search says of a program.

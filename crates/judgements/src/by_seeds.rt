@@ -18,7 +18,7 @@ use machine::LoadFault;
 use schedule_makers::{fair_length, seeded};
 use seed_outcomes::seeds::{RunFlaw, SeedFlaw, Seeds, first_flaw, first_flaw_alone};
 use seed_outcomes::states::judged_end;
-use seed_outcomes::{SeedOutcome, SurveySeeds, outcomes_of, unshown_by_seeds, worst_status};
+use seed_outcomes::{SeedOutcome, SurveySeeds, outcomes_of, unshown_by_seeds};
 use std::alloc::{AllocError, Global};
 use std::thread::Threads;
 
@@ -49,30 +49,40 @@ pub(crate) fn judged_by_seeds<X: Threads + Sync>(
         → IsRightBySeeds image.now required.now (seeds_of asked)) }
     ensures shown { IfOk result (λ j. IsShownWithoutSearch asked image.now required.now j) }
 {
-    let judgement = match flaw_of(rt, alloc, asked, image, required)? {
-        Some(found) => judged_by_flaw(alloc, asked, image, required, found)?,
-        None => judged_flawless(alloc, asked, image, required)?,
-    };
+    let judgement = judged_by_runs(rt, alloc, asked, image, required)?;
     if !asked.counts_all {
         return Ok(judgement);
     }
-    with_outcomes(rt, alloc, asked, image, required, judgement)
+    let outcomes = outcomes_by_runs(rt, alloc, asked, image, required)?;
+    Ok(judgement.with_outcomes(outcomes))
 }
 
-/// The same judgement with the outcomes of all seeds, those that most seeds come to first, and with the worst status over all
-/// of them.
-fn with_outcomes<X: Threads + Sync>(
+/// The same, without the outcomes of all seeds.
+fn judged_by_runs<X: Threads + Sync>(
     rt: &X,
     alloc: Global,
     asked: AskedJudging,
     image: &Image,
     required: &Requirements,
-    judgement: CaseJudgement,
 ) -> Result<CaseJudgement, AllocError>
-    ensures kind { IfOk result (λ j. j.kind ≡ judgement.kind) }
-    ensures reason { IfOk result (λ j. j.reason ≡ judgement.reason) }
-    ensures ends { IfOk result (λ j. j.ends ≡ judgement.ends) }
+    ensures right { IfOk result (λ j. j.kind ≡ VerdictKind.Right
+        → IsRightBySeeds image.now required.now (seeds_of asked)) }
+    ensures shown { IfOk result (λ j. IsShownWithoutSearch asked image.now required.now j) }
 {
+    match flaw_of(rt, alloc, asked, image, required)? {
+        Some(found) => judged_by_flaw(alloc, asked, image, required, found),
+        None => judged_flawless(alloc, asked, image, required),
+    }
+}
+
+/// The outcomes of all seeds, those that most seeds come to first.
+fn outcomes_by_runs<X: Threads + Sync>(
+    rt: &X,
+    alloc: Global,
+    asked: AskedJudging,
+    image: &Image,
+    required: &Requirements,
+) -> Result<Vec<SeedOutcome>, AllocError> {
     let seeds = SurveySeeds {
         first: 0,
         count: asked.seeds,
@@ -80,10 +90,7 @@ fn with_outcomes<X: Threads + Sync>(
     };
     let mut outcomes = outcomes_of(rt, alloc, image, required, seeds)?;
     outcomes.sort_by_key(|outcome: &SeedOutcome| usize::MAX - outcome.runs)?;
-    let mut judgement = judgement;
-    judgement.status = judgement.status.worse(worst_status(&outcomes));
-    judgement.outcomes = outcomes;
-    Ok(judgement)
+    Ok(outcomes)
 }
 
 /// What is known of a program of which the run of each seed is right.

@@ -2,6 +2,7 @@
 
 ghost use Rattle.std.specs.Prelude.{◌≡◌, None, Some};
 ghost use Rattle.judgements.specs.Missed.{expectation_at, missed_at_end, missed_in_run, missed_by};
+ghost use Rattle.judgements.specs.Shown.{JudgedAs, IsShownBy};
 ghost use Rattle.judgements.specs.Statuses.{IsAsBadAsKind};
 
 use crate::knowledge::Known;
@@ -9,10 +10,10 @@ use crate::verdict_kinds::VerdictKind;
 use end_kinds::{EndKind, Status};
 use expectation_files::LineFault;
 use processor::Step;
-use seed_outcomes::SeedOutcome;
 use seed_outcomes::ends_of_space::{SpaceEnd, SpaceEndKind};
 use seed_outcomes::seeds::RunFlaw;
 use seed_outcomes::states::JudgedEnd;
+use seed_outcomes::{SeedOutcome, worst_status};
 use seed_work::MissedWork;
 use std::alloc::{AllocError, Global};
 
@@ -153,6 +154,17 @@ impl CaseJudgement {
     {
         let mut judgement = self;
         judgement.status = judgement.status.worse(judgement.kind.status());
+        judgement
+    }
+
+    /// The same judgement with the outcomes of all seeds, and with the worst status over all of them.
+    pub(crate) fn with_outcomes(self, outcomes: Vec<SeedOutcome>) -> CaseJudgement
+        ensures kind { result.kind ≡ self.kind }
+        ensures shown { (p : JudgedAs) → IsShownBy p self → IsShownBy p result }
+    {
+        let mut judgement = self;
+        judgement.status = judgement.status.worse(worst_status(&outcomes));
+        judgement.outcomes = outcomes;
         judgement
     }
 

@@ -44,7 +44,7 @@ pub(crate) fn judged_thoroughly<X: Threads + Sync, C: Clock, E: Write>(
         return Ok(sampled);
     }
     let found = searched_widely(alloc, bounds, judged, console)?;
-    if found.judgement.kind == VerdictKind::NotDecided {
+    if found.judgement.kind.is_not_decided() {
         return Ok(undecided(sampled, found));
     }
     let mut judgement = found.judgement;

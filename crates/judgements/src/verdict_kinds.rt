@@ -1,6 +1,6 @@
 //! What a submission is.
 
-ghost use Rattle.std.specs.Prelude.{◌≡◌};
+ghost use Rattle.std.specs.Prelude.{◌≡◌, true};
 ghost use Rattle.judgements.specs.Severity.{severity_of};
 ghost use Rattle.judgements.specs.Statuses.{status_of_kind};
 
@@ -32,6 +32,25 @@ pub enum VerdictKind {
 }
 
 impl VerdictKind {
+    /// Whether it is not known what the submission is.
+    pub(crate) fn is_not_decided(self) -> bool
+        ensures only { result ≡ true → self ≡ VerdictKind.NotDecided }
+        ensures is { self ≡ VerdictKind.NotDecided → result ≡ true }
+    {
+        match self {
+            VerdictKind::NotDecided => true,
+            VerdictKind::Right
+            | VerdictKind::NotRead
+            | VerdictKind::SourceFault
+            | VerdictKind::Trap
+            | VerdictKind::Deadlock
+            | VerdictKind::Wrong
+            | VerdictKind::RanOutOfSteps
+            | VerdictKind::Spins
+            | VerdictKind::NotJudged => false,
+        }
+    }
+
     /// The word of the table.
     pub fn word(self) -> &'static str {
         match self {
