@@ -19,7 +19,8 @@ NO_BREAK = b"break takes a label, as eat or eat+1, or a line, perhaps after a pr
 AT = re.compile(rb"after (\d+) of (\d+) steps")
 # words that stand behind info, watch or delete
 BEHIND_ANOTHER = {"streams", "threads", "points", "waiting", "registers", "tags", "trap"}
-WORD = re.compile(rb"\[(\d+)\] (-?\d+), (full|empty)")
+# the word that an answer shows, with its name if it has one
+WORD = re.compile(rb"\[(\d+)\](?: [A-Za-z_]\S*)? (-?\d+), (full|empty)")
 
 
 def random_line(chooser, words, processors, labels):
