@@ -33,15 +33,15 @@ endif
 # the targets, each with what it does and how long it takes
 help:
 	@echo "make try        runs a SOURCE by a SCHEDULE with both programs, unproved (two minutes); examples/lock.asm if none is named"
-	@echo "make draft      builds both programs UNPROVED in out/draft, or the PROGRAMS that are named (some five minutes)"
+	@echo "make draft      builds both programs UNPROVED in out/draft, or the PROGRAMS that are named (some six minutes)"
 	@echo "                cases, documents, spaces, hostile, refuse, pages, editors, recipes and bench run on them with PROGRAM=draft"
 	@echo "make run        proves and builds mta_sim, and shows a first run (37 processor minutes)"
 	@echo "make run-lab    the same of mta_lab (165 processor minutes)"
 	@echo "make test       proves everything, tries the edits in must-fail/, runs all tests (200 processor minutes from nothing; ANEW=1: nothing that is kept counts)"
 	@echo "make prove      proves the CRATES and those that they stand on, as make test does (docs/ARCHITECTURE.md has the minutes of each)"
-	@echo "make checks     what make test tests before any proof (seconds)"
+	@echo "make checks     what make test tests before any proof (a minute)"
 	@echo "make trust      writes out/TRUST.md, the definitions that a reader has to trust (seconds)"
-	@echo "make cases      runs the cases below tests/cases on the built program (seconds); CASES=\"debug/ run/lists\": those of these tables"
+	@echo "make cases      runs the cases below tests/cases on the built program (some minutes); CASES=\"debug/ run/lists\": those of these tables"
 	@echo "make documents  runs the commands of the documents and compares what they print (seconds)"
 	@echo "make minutes    writes the table of what a check costs into docs/ARCHITECTURE.md, of what make test left in out/ (a second)"
 	@echo "make crates     writes the table of crates into docs/ARCHITECTURE.md, of crates.txt and the crates' README.md (a second)"

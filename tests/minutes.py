@@ -199,7 +199,9 @@ def affected(names):
     for crate in filter(again.__contains__, below):
         taken = cost.get(crate)
         print(f"{crate:20} {'not measured' if taken is None else f'{sum(taken) / 60:6.1f} minutes'}")
-    print(f"{len(again)} crates, {sum(sum(cost.get(it, [])) for it in again) / 60:.0f} processor minutes")
+    unknown = len(again - {*cost})
+    rest = f", and {unknown} crates that are not measured" if unknown else ""
+    print(f"{len(again)} crates, {sum(sum(cost.get(it, [])) for it in again) / 60:.0f} processor minutes{rest}")
 
 
 def behind(jobs):

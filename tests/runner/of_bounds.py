@@ -17,6 +17,8 @@ COUNTS = b".entry more\n.data 0\nmore: ADD r1, r1, 1\n SKIP ALWAYS, 0, more\n"
 SECONDS = "4"
 TOLD = rb"\r(\d+) states, (\d+) still to explore, (\d+) a second, (\d+) MB\x1b\[K"
 WIPED = b"\r\x1b[K"
+# what a search says that its time has ended, with N for each number
+ENDED = "some schedules: N states explored, N steps, not complete, ended by --seconds: nothing is said of the others\n"
 
 
 @checks.others("lab/bounds")
@@ -25,7 +27,7 @@ def bounds():
         path = os.path.join(folder, "counts.asm")
         tool.write(path, COUNTS)
         yield "megabytes", True, by_memory(path)
-        yield "seconds", (5, b"", True), by_seconds(path)
+        yield "seconds", (5, b"", ENDED), by_seconds(path)
         yield "a terminal", True, on_terminal(path)
         yield "a terminal and a search that is soon done", (0, b""), soon_done()
         yield "no terminal", (5, b""), elsewhere(path)
@@ -42,9 +44,8 @@ def by_memory(path):
 
 def by_seconds(path):
     ended = lab("explore", path, "--seconds", "1", "--states", "1000000000")
-    says = re.fullmatch(rb"some schedules: \d+ states explored, \d+ steps, not complete, ended by --seconds: nothing is "
-                        rb"said of the others\n", ended.out)
-    return ended.status, ended.err, says is not None or ended.out
+    says = re.sub(rb"\d+", b"N", ended.out).decode()
+    return ended.status, ended.err, says
 
 
 def with_terminal(*words):
