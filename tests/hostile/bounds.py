@@ -1,5 +1,6 @@
 """What `--memory`, `--seconds` and the number of messages bound: all that a process takes, its machines too, all searches of
-`grade` together, claims after a search, and files of a million bad lines. And what writing over many files takes."""
+`grade` together, claims and endless waits after a search, and files of a million bad lines. And what writing over many
+files takes."""
 
 import os
 
@@ -52,6 +53,19 @@ def philosophers(count, meals):
         lines += [f"p{at}: LIT r3, {meals}", f"q{at}: LOAD.S r1, r0, {forks[0]}", f" LOAD.S r2, r0, {forks[1]}",
                   *(f" STORE.S r1, r0, {fork}" for fork in forks), " SUB.T r3, r3, 1", f" SKIP NE, 0, q{at}", " QUIT"]
     return "\n".join(lines).encode() + b"\n"
+
+
+def of_waits(tally, folder):
+    """Who can wait forever is looked for after a search that fits: what that takes stays below the bound too."""
+    few = philosophers(5, 1)
+    large = philosophers(4, 2).replace(b" .slim 1", b" .slim 16").replace(b"\np0:", b"\n .fill 1000, 0, 1\np0:")
+    for what, text, size in (("small machines", few, 15), ("large machines", large, 40)):
+        ended = lab("explore", write(folder, "waits.asm", text), "--waiting", "--memory", str(size))
+        tally.runs += 1
+        tally.check(f"waits of {what} by {size} MB: {ended}", ended.status == 4 and b", complete\n" in ended.out
+                    and ended.out.count(b"fair by words: ") == text.count(b".entry") and b"not decided" not in ended.out)
+        tally.check(f"waits of {what} by {size} MB take {ended.peak // MEGABYTE} MB",
+                    ended.peak <= size * MEGABYTE * MORE + BESIDE)
 
 
 def streams(count):
@@ -146,6 +160,7 @@ def part(_, folder):
     """All of them."""
     tally = Tally()
     of_memory(tally, folder)
+    of_waits(tally, folder)
     of_grade(tally, folder)
     of_time(tally, folder)
     of_messages(tally, folder)
