@@ -14,6 +14,8 @@ MORE, LATE = 1.2, 1.5
 # the most megabytes without --memory
 USUAL = 2000
 BAD_LINES = 1_000_000
+# the most errors of a file, and the most warnings beside that of all comments; nearly the most lines of data of a text
+SHOWN, DATA_LINES = 10_000, 262_000
 # how many files are written over
 FILES = 2000
 # how many words a long program has
@@ -137,8 +139,21 @@ def of_messages(tally, folder):
         tally.runs += 1
         shown = max(ended.err.count(b": error: "), ended.out.count(b'"object":"message"'), ended.out.count(b"source fault"))
         name, status = " ".join(os.path.basename(word) for word in words), 3 if words[0] == "grade" else 1
-        tally.check(f"{name}: {ended}", ended.status == status and 1 <= shown <= 10_001)
+        tally.check(f"{name}: {ended}", ended.status == status and 1 <= shown <= SHOWN + 1)
         tally.check(f"{name} takes {ended.seconds:.1f} s", ended.seconds <= 6)
+
+
+def of_warnings(tally, folder):
+    """A million lines with warnings: as many are made as are shown. Comments that are not ASCII have one together."""
+    comments = "; \u00FC\n".encode()
+    data = b"".join(b"l%d: .data 0\n" % number for number in range(DATA_LINES))
+    for what, text, shown in (("comments", comments * BAD_LINES, 1),
+                              ("labels of data", data + comments * (BAD_LINES - DATA_LINES), SHOWN + 1)):
+        source = write(folder, "warned.asm", b" .entry 0\n QUIT\n .data 0\n" + text)
+        ended = lab("check", source)
+        tally.runs += 1
+        tally.check(f"{what}: {ended}", ended.status == 0 and 1 <= ended.err.count(b": warning: ") <= shown)
+        tally.check(f"{what} take {ended.seconds:.1f} s", ended.seconds <= 6)
 
 
 def of_files(tally, folder):
@@ -164,5 +179,6 @@ def part(_, folder):
     of_grade(tally, folder)
     of_time(tally, folder)
     of_messages(tally, folder)
+    of_warnings(tally, folder)
     of_files(tally, folder)
     return tally
