@@ -3,7 +3,8 @@
 # of three backquotes a line that begins with "$ " is a command, lines behind it that begin with "> " are typed, and the
 # others, up to the next command, are what it prints. A block whose first line says more than the backquotes is left out.
 # The commands of a document are run by one shell in a copy of the examples, one after the other, with the exercises beside
-# them. The last line counts the commands; where a document's print something else, one of them has failed. With
+# them. The last line counts the commands; where a document's print something else, one of them has failed. Who works
+# through several documents does so in one folder: so no two of them may write a file of one name with other content. With
 # PROGRAM=draft in the environment the drafts are called.
 set -u
 cd "$(dirname "$0")/.." || exit 1
@@ -42,10 +43,23 @@ wanted() {
   ' "$1"
 }
 
-for file in "$@"; do
+# sums: of each file in the copy of the examples its checksum and its name, in order of the lines
+sums() {
+  (cd "$work/examples" && find . -type f -print0 | xargs -0 sha256sum) | LC_ALL=C sort
+}
+
+# lay_out: a new copy of the examples, with the exercises
+lay_out() {
   rm -rf "$work/examples"
   cp -r examples exercises "$work"
   mv "$work/exercises" "$work/examples"
+}
+
+lay_out
+sums >"$work/before"
+: >"$work/files"
+for file in "$@"; do
+  lay_out
   script "$file" >"$work/script"
   wanted "$file" >"$work/wanted"
   commands=$(grep -c '^= end' "$work/wanted")
@@ -58,7 +72,19 @@ for file in "$@"; do
     cat "$work/difference"
     failed=$((failed + 1))
   fi
+  sums | LC_ALL=C comm -13 "$work/before" - | sed "s|^|$file |" >>"$work/files"
 done
+
+# (of each file that documents leave: the document, the checksum, the name)
+if awk '
+  { name = substr($0, length($1) + length($2) + 6) }
+  name in sum && sum[name] != $2 { print $1 " leaves " name " otherwise than " from[name]; found = 1 }
+  !(name in sum) { sum[name] = $2; from[name] = $1 }
+  END { exit found }' "$work/files"; then
+  passed=$((passed + 1))
+else
+  failed=$((failed + 1))
+fi
 
 printed=$(mta_sim --version 2>&1)
 newest=$(sed -n 's/^## /mta_sim /p' "$root/CHANGELOG.md" | head -n 1)

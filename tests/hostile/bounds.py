@@ -1,5 +1,6 @@
 """What `--memory`, `--seconds` and the number of messages bound: all that a process takes, its machines too, all searches of
-`grade` together, claims after a search, and files of a million bad lines. And what writing over many files takes."""
+`grade` together, claims and endless waits after a search, and files of a million bad lines. And what writing over many
+files takes."""
 
 import os
 
@@ -13,6 +14,8 @@ MORE, LATE = 1.2, 1.5
 # the most megabytes without --memory
 USUAL = 2000
 BAD_LINES = 1_000_000
+# the most errors of a file, and the most warnings beside that of all comments; nearly the most lines of data of a text
+SHOWN, DATA_LINES = 10_000, 262_000
 # how many files are written over
 FILES = 2000
 # how many words a long program has
@@ -52,6 +55,19 @@ def philosophers(count, meals):
         lines += [f"p{at}: LIT r3, {meals}", f"q{at}: LOAD.S r1, r0, {forks[0]}", f" LOAD.S r2, r0, {forks[1]}",
                   *(f" STORE.S r1, r0, {fork}" for fork in forks), " SUB.T r3, r3, 1", f" SKIP NE, 0, q{at}", " QUIT"]
     return "\n".join(lines).encode() + b"\n"
+
+
+def of_waits(tally, folder):
+    """Who can wait forever is looked for after a search that fits: what that takes stays below the bound too."""
+    few = philosophers(5, 1)
+    large = philosophers(4, 2).replace(b" .slim 1", b" .slim 16").replace(b"\np0:", b"\n .fill 1000, 0, 1\np0:")
+    for what, text, size in (("small machines", few, 15), ("large machines", large, 40)):
+        ended = lab("explore", write(folder, "waits.asm", text), "--waiting", "--memory", str(size))
+        tally.runs += 1
+        tally.check(f"waits of {what} by {size} MB: {ended}", ended.status == 4 and b", complete\n" in ended.out
+                    and ended.out.count(b"fair by words: ") == text.count(b".entry") and b"not decided" not in ended.out)
+        tally.check(f"waits of {what} by {size} MB take {ended.peak // MEGABYTE} MB",
+                    ended.peak <= size * MEGABYTE * MORE + BESIDE)
 
 
 def streams(count):
@@ -123,8 +139,21 @@ def of_messages(tally, folder):
         tally.runs += 1
         shown = max(ended.err.count(b": error: "), ended.out.count(b'"object":"message"'), ended.out.count(b"source fault"))
         name, status = " ".join(os.path.basename(word) for word in words), 3 if words[0] == "grade" else 1
-        tally.check(f"{name}: {ended}", ended.status == status and 1 <= shown <= 10_001)
+        tally.check(f"{name}: {ended}", ended.status == status and 1 <= shown <= SHOWN + 1)
         tally.check(f"{name} takes {ended.seconds:.1f} s", ended.seconds <= 6)
+
+
+def of_warnings(tally, folder):
+    """A million lines with warnings: as many are made as are shown. Comments that are not ASCII have one together."""
+    comments = "; \u00FC\n".encode()
+    data = b"".join(b"l%d: .data 0\n" % number for number in range(DATA_LINES))
+    for what, text, shown in (("comments", comments * BAD_LINES, 1),
+                              ("labels of data", data + comments * (BAD_LINES - DATA_LINES), SHOWN + 1)):
+        source = write(folder, "warned.asm", b" .entry 0\n QUIT\n .data 0\n" + text)
+        ended = lab("check", source)
+        tally.runs += 1
+        tally.check(f"{what}: {ended}", ended.status == 0 and 1 <= ended.err.count(b": warning: ") <= shown)
+        tally.check(f"{what} take {ended.seconds:.1f} s", ended.seconds <= 6)
 
 
 def of_files(tally, folder):
@@ -146,8 +175,10 @@ def part(_, folder):
     """All of them."""
     tally = Tally()
     of_memory(tally, folder)
+    of_waits(tally, folder)
     of_grade(tally, folder)
     of_time(tally, folder)
     of_messages(tally, folder)
+    of_warnings(tally, folder)
     of_files(tally, folder)
     return tally

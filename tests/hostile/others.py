@@ -11,12 +11,15 @@ import threading
 import time
 
 from lab import LAB, example, lab
-from program import Tally, read, write
+from program import ROOT, Tally, read, write
 
 LOCK, RACE = example("lock.asm"), example("fetch_add.asm")
 GRADED = example("grading/submissions")
+EXERCISES, EXERCISE = os.path.join(ROOT, "exercises"), "01_hand_over"
 # a stream that adds to a word: a space of one end
 ONE = b".entry go\n.data 0\ngo: LIT r1, 1\nFADD.N r1, r0, 0\nQUIT\n"
+# a stream that waits forever for a word that nobody fills, beside one that loops
+WAITS = b" .entry a\n .entry b\n .data 0, 0\na: NOP\n LOAD.S r0, r0, 0\n QUIT\nb: SKIP ALWAYS, 0, b\n"
 LOOSE, NEAT = b" .entry 0\n .data 0\nQUIT\n", b"        .entry 0\n        .data 0\n        QUIT\n"
 # the user who owns the folder, and others: user and group
 OWNER, FRIEND, MEMBER, STRANGER = (1234, 4321), (1235, 4322), (1236, 4321), (1237, 4323)
@@ -106,6 +109,7 @@ def swapped(tally, folder):
                 if name.startswith(".mta_lab-"):
                     os.rename(os.path.join(at, "secret"), os.path.join(at, name))
 
+        met = 0
         with Helper(OWNER, act):
             for number in range(RACES):
                 owned(at, "made", b"before")
@@ -114,11 +118,13 @@ def swapped(tally, folder):
                 about = os.fstat(secret)
                 os.close(secret)
                 tally.runs += 1
+                met += "secret" not in left(at)
                 tally.check(f"{words[0]} beside a swap, {number}: root's file is {about.st_uid}'s, of mode {about.st_mode:o}",
                             (about.st_uid, about.st_gid, stat.S_IMODE(about.st_mode)) == (0, 0, 0o600))
                 tally.check(f"{words[0]} beside a swap, {number}: {ended}", ended.status in (0, 1))
                 tally.check(f"{words[0]} beside a swap leaves an owner", kinds(made)[2:] == OWNER)
                 emptied(at)
+        tally.check(f"{words[0]} beside a swap: the helper has met none of {RACES} files", met > 0)
 
 
 def turned(tally, folder):
@@ -261,28 +267,43 @@ def links(tally, folder):
     the user named may be each of them but a FIFO that nobody reads."""
     at, secrets = room(folder, "links"), room(folder, "secrets")
     secret = write(secrets, "secret", b"root's")
-    source = write(at, "one.asm", ONE)
+    source, waits = write(at, "one.asm", ONE), write(at, "waits.asm", WAITS)
     racing = os.path.join(GRADED, "racing.asm")
     wanted = write(folder, "wanted.expect", b"word 8 2\nfinished\n")
-    for name, words in (
-        ("one.image", ["asm", source]),
-        ("1.schedule", ["explore", source, "--keep", at]),
-        ("1_finished.html", ["explore", source, "--pages", at]),
-        ("racing.html", ["grade", "--expect", wanted, "--seeds", "20", "--pages", at, racing]),
+    given, task = room(folder, "given"), room(folder, f"given/{EXERCISE}")
+    shutil.copytree(os.path.join(EXERCISES, EXERCISE), task, dirs_exist_ok=True)
+    owned(task, "start.asm", ONE)
+    gallery = ["gallery", at, "--exercises", given, "--examples", secrets]
+    for place, name, words in (
+        (at, "one.image", ["asm", source]),
+        (at, "1.schedule", ["explore", source, "--keep", at]),
+        (at, "1_finished.html", ["explore", source, "--pages", at]),
+        (at, "waiting_0.0_stem.schedule", ["explore", waits, "--waiting", "--keep", at]),
+        (at, "waiting_0.0.schedule", ["explore", waits, "--waiting", "--keep", at]),
+        (at, "racing.html", ["grade", "--expect", wanted, "--seeds", "20", "--pages", at, racing]),
+        (at, "racing.txt", ["grade", "--expect", wanted, "--seeds", "20", "--feedback", at, racing]),
+        (at, f"{EXERCISE}.play.html", gallery),
+        (at, f"{EXERCISE}.run.html", gallery),
+        (at, "index.html", gallery),
+        (task, "start.old.asm", ["exercise", "1", "--reset", "--folder", given]),
     ):
-        for what in laid(at, name, secret):
-            before = kinds(os.path.join(at, name)), left(at)
+        path, there = os.path.join(place, name), left(place)
+        for what in laid(place, name, secret):
+            before = kinds(path)
             ended = lab(words)
             tally.runs += 1
             said = f"{name}: not written: it is ".encode() + (b"not a regular file" if what == "a FIFO" else b"a link")
             tally.check(f"{words[0]} at {what}: {ended}", ended.status == 1 and said in ended.err)
-            tally.check(f"{words[0]} leaves {what}", (kinds(os.path.join(at, name)), left(at)) == before)
+            tally.check(f"{words[0]} leaves {what}", kinds(path) == before)
+            tally.check(f"{words[0]} leaves nothing hidden", not any(it.startswith(".") for it in left(place)))
             tally.check(f"{words[0]} leaves what {what} leads to", read(secret) == b"root's")
         ended = lab(words)
-        tally.check(f"{words[0]} at nothing: {ended}", ended.status != 1 and name in left(at))
+        tally.check(f"{words[0]} at nothing: {ended}", ended.status != 1 and name in left(place))
         ended = lab(words)
-        tally.check(f"{words[0]} at its own file: {ended}", ended.status != 1 and name in left(at))
-        os.unlink(os.path.join(at, name))
+        tally.check(f"{words[0]} at its own file: {ended}", ended.status != 1 and name in left(place))
+        for new in set(left(place)) - set(there):
+            os.unlink(os.path.join(place, new))
+    tally.check("a reset keeps the program", read(os.path.join(task, "start.asm")) == read(os.path.join(task, "original.asm")))
     os.symlink(secret, os.path.join(at, "named"))
     ended = lab(["asm", source, "--out", os.path.join(at, "named")])
     tally.check(f"asm at a link that is named: {ended}", ended.is_done() and read(secret) != b"root's")

@@ -237,6 +237,24 @@ def arguments():
         yield "evaluated", ["bare: LOAD.N r2, r0, 1", *["bare+1: ADD r2, r2, 1"] * 4], shown
 
 
+@checks.others("adapter/labels")
+def labels():
+    """Each of two labels on one word is an address, and so is a word after one: a breakpoint, a value, and where a run stops."""
+    text = b" .slim 1\n .entry go\n .data 0\ngo: LIT r1, 7\nlocked:\nguarded: ADD r2, r1, 1\nmore: STORE.N r2, r0, 0\n QUIT\n"
+    with tool.made_files(source=text, schedule=b"0 0 4\n") as paths:
+        for name, line, instruction in (("locked", 6, "ADD r2, r1, 1"), ("guarded", 6, "ADD r2, r1, 1"),
+                                        ("locked+1", 7, "STORE.N r2, r0, 0"), ("guarded+1", 7, "STORE.N r2, r0, 0"),
+                                        ("locked+2", 8, "QUIT")):
+            with adapters.adapter() as editor:
+                editor.launched(paths["source"], paths["schedule"])
+                [point] = editor.body("setFunctionBreakpoints", breakpoints=[{"name": name}])["breakpoints"]
+                shown = editor.body("evaluate", expression=name)["result"].partition(": ")[2]
+                position, reason, *_ = editor.move("continue")
+                frame = editor.body("stackTrace", threadId=thread_of(0, 0))["stackFrames"][0]
+            yield name, (True, line, instruction, line - 5, line), (
+                point["verified"], point["line"], shown, position, frame["line"])
+
+
 def refusal(response):
     """Whether a request succeeded, and whether a sentence says why not."""
     return response["success"], " " in response.get("message", "")

@@ -2,20 +2,31 @@
 other users and swaps meanwhile, is in tests/hostile/others.py."""
 
 import os
+import shutil
 import stat
 import subprocess
 import tempfile
 
 import checks
 import tool
+from of_exercises import EXERCISES
 from of_lab import lab
 
 ONE = b" .entry 0\n QUIT\n .data 0\n"
+# a stream that waits forever for a word that nobody fills, beside one that loops
+WAITS = b" .entry a\n .entry b\n .data 0, 0\na: NOP\n LOAD.S r0, r0, 0\n QUIT\nb: SKIP ALWAYS, 0, b\n"
+EXERCISE = "01_hand_over"
 LOOSE, NEAT = b" .entry 0\n .data 0\nQUIT\n", b"        .entry 0\n        .data 0\n        QUIT\n"
 # paths that the lab chooses, and the command lines that write there
 DERIVED = [("one.image", ["asm", "one.asm"]), ("1.schedule", ["explore", "one.asm", "--keep", "."]),
            ("1_finished.html", ["explore", "one.asm", "--pages", "."]),
-           ("one.html", ["grade", "--expect", "wanted", "--seeds", "1", "--pages", ".", "one.asm"])]
+           ("one.html", ["grade", "--expect", "wanted", "--seeds", "1", "--pages", ".", "one.asm"]),
+           ("one.txt", ["grade", "--expect", "wanted", "--seeds", "1", "--feedback", ".", "one.asm"]),
+           ("waiting_0.0_stem.schedule", ["explore", "waits.asm", "--waiting", "--keep", "."]),
+           ("waiting_0.0.schedule", ["explore", "waits.asm", "--waiting", "--keep", "."]),
+           (f"{EXERCISE}.play.html", ["gallery", ".", "--exercises", "given", "--examples", "none"]),
+           (f"{EXERCISE}.run.html", ["gallery", ".", "--exercises", "given", "--examples", "none"]),
+           ("index.html", ["gallery", ".", "--exercises", "given", "--examples", "none"])]
 NAMED = [["asm", "one.asm", "--out", "named"], ["page", "one.asm", "--out", "named"], ["picture", "one.asm", "--out", "named"]]
 LINK = b"not written: it is a link, and you did not name it as the output\n"
 IRREGULAR = b"not written: it is not a regular file\n"
@@ -45,8 +56,10 @@ def not_named():
 
 def begun(folder):
     """The files of a case."""
-    for name, text in (("one.asm", ONE), ("wanted", b"word 0 1\n"), ("other", b"other's")):
+    for name, text in (("one.asm", ONE), ("waits.asm", WAITS), ("wanted", b"word 0 1\n"), ("other", b"other's")):
         tool.write(os.path.join(folder, name), text)
+    shutil.copytree(os.path.join(EXERCISES, EXERCISE), os.path.join(folder, "given", EXERCISE))
+    os.mkdir(os.path.join(folder, "none"))
 
 
 def seen(folder):
@@ -65,7 +78,9 @@ def left_alone(name, words, lay, reason):
         lay(os.path.join(folder, name))
         before = seen(folder)
         ended = lab(*words, folder=folder)
-        return (1, True, before), (ended.status, f"{name}: ".encode() + reason in ended.err, seen(folder))
+        after = seen(folder)
+        left = {other: after.get(other) for other in before}
+        return (1, True, before), (ended.status, f"{name}: ".encode() + reason in ended.err, left)
 
 
 def written_over(name, words):
@@ -77,6 +92,49 @@ def written_over(name, words):
         tool.write(path, b"before")
         lab(*words, folder=folder)
         return (True, whole, before), (len(whole) > 0, tool.read(path), os.lstat(path).st_ino)
+
+
+@checks.others("lab/files_of_a_reset")
+def of_a_reset():
+    """A reset writes over a program only after it is kept, and follows no link."""
+    for name, lay, reason in (("start.old.asm", lay_link, LINK), ("start.old.asm", lay_loose_link, LINK),
+                              ("start.old.asm", lay_second_name, LINK), ("start.old.asm", os.mkfifo, IRREGULAR),
+                              ("start.old.asm", os.mkdir, IRREGULAR), ("start.asm", lay_link, LINK),
+                              ("start.asm", lay_second_name, LINK), ("start.asm", os.mkdir, b"")):
+        yield f"{name}, {lay.__name__}", lambda case=(name, lay, reason): reset_beside(*case)
+    yield "a file", reset_twice
+
+
+def exercise_in(folder):
+    """An exercise with the program of a student, and his other file."""
+    begun(folder)
+    place = os.path.join(folder, "given", EXERCISE)
+    tool.write(os.path.join(place, "start.asm"), ONE)
+    tool.write(os.path.join(place, "other"), ONE)
+    return place
+
+
+def reset_beside(name, lay, reason):
+    with tempfile.TemporaryDirectory(prefix="mta-case-") as folder:
+        place = exercise_in(folder)
+        if name == "start.asm":
+            os.unlink(os.path.join(place, name))
+        lay(os.path.join(place, name))
+        before = seen(place)
+        ended = lab("exercise", "1", "--reset", "--folder", "given", folder=folder)
+        after = seen(place)
+        left = {other: after.get(other) for other in before}
+        return (1, True, before), (ended.status, f"{name}: ".encode() + reason in ended.err, left)
+
+
+def reset_twice():
+    with tempfile.TemporaryDirectory(prefix="mta-case-") as folder:
+        place = exercise_in(folder)
+        original = tool.read(os.path.join(place, "original.asm"))
+        call = ("exercise", "1", "--reset", "--folder", "given")
+        statuses = [lab(*call, folder=folder).status for _ in range(2)]
+        return ([0, 0], original, ONE, ONE), (statuses, *(tool.read(os.path.join(place, name)) for name in (
+            "start.asm", "start.old.asm", "other")))
 
 
 @checks.others("lab/files_named")

@@ -1,8 +1,11 @@
 """Names of files that are no UTF-8 or too long, texts that are longer than a line shows, characters that are not seen,
 links that lead out of a folder, and pages of earlier calls."""
 
+import csv
+import io
 import json
 import os
+import re
 import tempfile
 import xml.etree.ElementTree
 
@@ -59,6 +62,18 @@ def foreign_names():
         yield "junit", [SHOWN, "other.asm"], [suite.get("name") for suite in suites]
         results = json.loads(lab(*call, "--format", "gradescope", *names, folder=folder).out)
         yield "gradescope", [(SHOWN, 0), ("other.asm", 0)], [(it["name"], it["score"]) for it in results["tests"]]
+        ended = lab(*call, "--format", "moodle", *names, folder=folder)
+        yield "moodle", (status, [(SHOWN, "0", f"not read: {NOT_READ}"), ("other.asm", "0")]), (ended.status, [
+            (row[1], row[2], *row[5:] * (row[1] == SHOWN)) for row in csv.reader(io.StringIO(ended.out.decode())) if row[2] == "0"])
+        ended = lab(*call, "--feedback", "back", *names, folder=folder)
+        texts = [tool.read(os.path.join(folder, "back", it)).decode().split("\n\n") for it in sorted(
+            os.listdir(os.path.join(folder, "back"))) if it.endswith(".txt")]
+        yield "feedback", (status, b"", [f"{SHOWN}: not read, 0 of 1 point", "other.asm: wrong, 0 of 1 point"], True), (
+            ended.status, ended.err, [text[0] for text in texts], texts[0][1].startswith(f"not read: {NOT_READ}\n"))
+        rows = [lab(*call, *names, folder=folder).out] + [
+            lab(*call, "--results", "kept", *names, folder=folder).out for _ in range(2)] + [
+            lab("grade", "--merge", "kept", folder=folder).out]
+        yield "results", [HEAD + f"{SHOWN}\tnot read\t{NOT_READ}"] * 4, [row.decode().rpartition("\nother.asm\t")[0] for row in rows]
         for words in ([], ["--no-links"], ["--pages", "pages"]):
             ended = lab(*call, *words, LATIN, folder=folder)
             yield f"why, with {words}", (3, f"{HEAD}{SHOWN}\tnot read\t{NOT_READ}\n".encode()), (
@@ -104,6 +119,13 @@ def foreign_words():
             ("title", ("page", "same.asm", "--title", LATIN, "--out", "a.html"), (b"--title", SHOWN.encode())),
             ("out", ("page", "same.asm", "--out", LATIN), (b"--out", SHOWN.encode())),
             ("pages", ("grade", "--expect", "w", "--pages", LATIN, "same.asm"), (b"--pages", SHOWN.encode())),
+            ("feedback", ("grade", "--expect", "w", "--feedback", LATIN, "same.asm"), (b"--feedback", SHOWN.encode())),
+            ("results", ("grade", "--expect", "w", "--results", LATIN, "same.asm"), (b"--results", SHOWN.encode())),
+            ("gallery", ("gallery", LATIN), (b"FOLDER", SHOWN.encode())),
+            ("exercises", ("gallery", "a", "--exercises", LATIN), (b"--exercises", SHOWN.encode())),
+            ("examples", ("gallery", "a", "--examples", LATIN), (b"--examples", SHOWN.encode())),
+            ("folder", ("exercise", "--folder", LATIN), (b"--folder", SHOWN.encode())),
+            ("folder of one", ("exercise", "1", "--folder", LATIN), (b"--folder", SHOWN.encode())),
             ("new", ("new", LATIN), (b"NAME", SHOWN.encode())),
             ("asm", ("asm", LATIN), (b"--out", SHOWN.encode())),
             ("explain", ("explain", LATIN), (b"WORD", SHOWN.encode())),
@@ -269,3 +291,18 @@ def hidden_characters():
                 ended = lab(command[0], "c.asm", *command[1:], given=b"step 2\n", folder=folder)
                 yield f"U+{ord(letter):04X} in a comment of {command[0]}", (True, False), (
                     b"x?" in ended.out, letter.encode() in ended.out)
+            yield from in_cells(folder, letter)
+
+
+def in_cells(folder, letter):
+    """A character that is not seen, in a comment that cells of tables quote: question marks alone stand for it."""
+    shown = re.compile(rb"x[?]{1,3}y")
+    made(folder, "w2.expect", b"word 0 2\n")
+    call = ("grade", "c.asm", "--expect", "w2.expect", "--seeds", "1")
+    for name, words in (("grade", call), ("grade as tsv", (*call, "--format", "tsv")), ("moodle", (*call, "--format", "moodle")),
+                        ("compare", ("compare", "c.asm", "--seeds", "0", "1"))):
+        ended = lab(*words, folder=folder)
+        yield f"U+{ord(letter):04X} in a cell of {name}", (True, False), (bool(shown.search(ended.out)), letter.encode() in ended.out)
+    lab(*call, "--feedback", "back", folder=folder)
+    text = tool.read(os.path.join(folder, "back/c.txt"))
+    yield f"U+{ord(letter):04X} in a text for a student", (True, False), (bool(shown.search(text)), letter.encode() in text)

@@ -18,6 +18,8 @@ from ends_alone import EndsAlone
 LEAST, MOST, TRIES = 8, 300, 200
 # the verdict of `grade --explore` where no end and no claim is against a program
 SPINS, RIGHT = "spins", "right"
+# how a program is surveyed
+SURVEY = ("survey", "--seeds", "4", "--steps", "60", "--explore", "--json")
 
 
 class Case:
@@ -72,7 +74,8 @@ class Case:
             "never busy": ["explore", "--json", at["asm"], "--expect", at["busy"]],
             "begun, never busy": ["explore", "--json", at["asm"], "--from", at["schedule"], "--expect", at["busy"]],
             "graded never busy": ["grade", "--explore", "--json", "--expect", at["busy"], at["asm"]],
-            "surveyed": ["survey", "--seeds", "4", "--steps", "60", "--explore", "--json", at["asm"]],
+            "surveyed": [*SURVEY, at["asm"]],
+            "surveyed as expected": [*SURVEY, at["asm"], "--expect", at["expect"]],
         }
 
     def differences(self, answers):
@@ -82,7 +85,8 @@ class Case:
                              ("expected plainly", self.of_expected_plainly), ("graded", self.of_graded),
                              ("begun", self.of_begun), ("begun plainly", self.of_begun_plainly),
                              ("never busy", self.of_busy), ("begun, never busy", self.of_begun_busy),
-                             ("graded never busy", self.of_graded_busy), ("surveyed", self.of_surveyed)):
+                             ("graded never busy", self.of_graded_busy), ("surveyed", self.of_surveyed),
+                             ("surveyed as expected", self.of_surveyed_as_expected)):
             status, printed = answers[name]
             try:
                 objects = [json.loads(line) for line in printed.splitlines()]
@@ -179,12 +183,35 @@ class Case:
 
     def of_surveyed(self, status, *objects):
         """How many of the ends, told apart as lines of them are, some seeds reached; an endless loop is none of them."""
-        *outcomes, coverage = objects
-        ends = {shown.by_world(self.space, world) for world in self.space.ends()}
-        reached = {shown.by_object(told) for told in outcomes if told["end"] != "steps"}
+        return self.of_survey([], [], status, objects)
+
+    def of_surveyed_as_expected(self, status, *objects):
+        """The same where something is expected of ends, and claimed of worlds; and what is said of each."""
+        yield from self.of_survey(self.expected, self.claims, status, objects)
+        yield of_unshown(self.space, self.claims, objects)
+        outcomes = [told for told in objects if told["object"] == "outcome"]
+        by_runs = {told["claim"]["line"] for told in outcomes if told["claim"]}
+        by_schedules = {told["claim"]["line"] for told in objects if told["object"] == "broken"}
+        wanted = {number for number, line in enumerate(self.expected + self.claims, 1) if line in broken(self.space, self.claims)}
+        yield differs("claims that are told twice", by_runs & by_schedules, set())
+        yield differs("broken claims", by_runs | by_schedules, wanted)
+        for told in outcomes:
+            yield of_judgement(self.space, self.expected, told)
+
+    def of_survey(self, expected, claims, status, objects):
+        """What a survey says of some expectations and claims: which ends the seeds reached, apart also by the line that they
+        miss, and the worst status of the runs and of all schedules. (A stream that a trap stopped stays so: each end after a
+        run that ran out of steps has it too.)"""
+        outcomes = [told for told in objects if told["object"] == "outcome"]
+        coverage = objects[-1]
+        ends = {(shown.by_world(self.space, world), line_missed(expected, world)) for world in self.space.ends()}
+        reached = {(shown.by_object(told), told["missed"] and told["missed"]["line"])
+                   for told in outcomes if told["end"] != "steps"}
         yield differs("what seeds reach that is no end", reached - ends, set())
         yield differs("coverage", (coverage["ends"], coverage["met"], coverage["spinning"], coverage["complete"]),
                       (len(ends), len(reached), bool(self.space.spinning()), True))
+        is_cut = any(told["end"] == "steps" for told in outcomes)
+        yield differs("status", status, search.worst([self.status(expected, claims), *[search.ENDLESS] * is_cut]))
 
     # What the search says.
 
@@ -305,6 +332,23 @@ def of_world(space, world, end):
     yield differs("words", end["words"], shown.changed_words(space.program, world))
     stopped = {tuple(map(int, stream["stream"].split("."))): stream["trap"] for stream in end["stopped"]}
     yield differs("stopped", stopped, search.stopped(world))
+
+
+def line_missed(expected, world):
+    """The number of the first line that a world misses; None where it misses none."""
+    missed = expectations.missed(expected, world)
+    return missed and expected.index(missed) + 1
+
+
+def of_judgement(space, expected, told):
+    """In what an end that seeds reached is judged otherwise than each of the worlds that are told as it is."""
+    if told["end"] == "steps":
+        return None
+    alike = [world for world in space.ends() if shown.by_world(space, world) == shown.by_object(told)]
+    judged = {(line_missed(expected, world), expectations.is_as_expected(expected, world, space.kind(world))
+               and told["claim"] is None) for world in alike}
+    found = told["missed"] and told["missed"]["line"], told["expected"]
+    return None if found in judged else f"how an end is judged: {found}, and none of {judged}"
 
 
 def of_all(space):
