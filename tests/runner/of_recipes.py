@@ -84,6 +84,8 @@ kill -KILL $$
 def killed_in(folder):
     """The path of a program that is called mta_lab and is killed."""
     path = os.path.join(folder, "bin/mta_lab")
+    if os.path.lexists(path):  # (it is a link to the true one)
+        os.remove(path)
     made(folder, "bin/mta_lab", KILLED.encode())
     os.chmod(path, 0o755)
     return path
@@ -338,7 +340,6 @@ def by_array():
         yield "a part that there is not", 1, task(folder, 0)
         made(folder, "wanted.expect", b"wrod 0 1\n")
         yield "a teacher's error", 1, task(folder, 1)
-        os.remove(os.path.join(folder, "bin/mta_lab"))
         killed_in(folder)
         yield "killed", 137, task(folder, 1)
 
@@ -347,7 +348,7 @@ def by_array():
 KILLED_ONCE = """#!/bin/bash
 if [[ " $* " != *" --part 3/8 "* ]] || ! mkdir once 2>errors; then exec '{lab}' "$@"; fi
 '{lab}' "$@" &
-until [ -e part.3.jsonl ] && [ "$(wc -l <part.3.jsonl)" -ge 3 ]; do sleep 0.02; done
+while kill -0 $! 2>>errors && [ "$(cat part.3.jsonl 2>>errors | wc -l)" -lt 3 ]; do sleep 0.02; done
 kill -KILL $!
 wait $!
 """
