@@ -53,6 +53,12 @@ def cases_in(folder, claim=""):
     made(folder, "cases/seen.expect", f"word 8 6\npoints 2\n{claim}".encode())
 
 
+def one_case_in(folder):
+    """Makes one case, of one point."""
+    made(folder, "cases/seen.data", b" .data 3\n .data 0\n")
+    made(folder, "cases/seen.expect", b"word 8 6\n")
+
+
 def path_with(folder):
     """The folders of programs, and before them one that has the lab alone."""
     os.makedirs(os.path.join(folder, "bin"), exist_ok=True)
@@ -130,6 +136,10 @@ def by_vpl():
         cases_in(folder, "some word 8 is 77\n")
         status, grade, comments, _ = vpl(folder, ANSWER)
         yield "not decided", (0, None, True), (status, grade, "case seen: not decided, no score of 2" in comments)
+    for source, points in ((ANSWER, "1"), (NEITHER, "0")):
+        with tempfile.TemporaryDirectory(prefix="mta-case-") as folder:
+            one_case_in(folder)
+            yield f"{points} of 1", (0, points), vpl(folder, source)[:2]
     with tempfile.TemporaryDirectory(prefix="mta-case-") as folder:
         cases_in(folder)
         status, grade, comments, _ = vpl(folder, ANSWER, "my answer.asm")
@@ -178,6 +188,11 @@ def by_coderunner():
             yield f"{who}: a hidden value", [], leaks(printed)
             yield f"{who}: a page that nobody gets", False, "page" in found["got"]
             yield f"{who}: what is handed in", source.encode(), tool.read(os.path.join(folder, "answer.asm"))
+    for source, points in ((ANSWER, 1), (NEITHER, 0)):
+        with tempfile.TemporaryDirectory(prefix="mta-case-") as folder:
+            one_case_in(folder)
+            ended = coderunner(folder, source)
+            yield f"{points} of 1", (0, points), (ended.returncode, json.loads(ended.stdout or "{}").get("fraction"))
     with tempfile.TemporaryDirectory(prefix="mta-case-") as folder:
         cases_in(folder, "some word 8 is 77\n")
         ended = coderunner(folder, ANSWER)
