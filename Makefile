@@ -56,7 +56,7 @@ help:
 	@echo "make pages      the pages in a browser; needs chromium, its driver and Python's selenium, and says what is missing (some minutes)"
 	@echo "make editors    the syntax files, asked by the editors that read them; mta_lab lsp by their clients; mta_lab dap by a client that others' library makes. Says what is missing (seconds)"
 	@echo "make recipes    recipes of docs/GRADING.md that take a bare system, a cluster or a spreadsheet: debootstrap's root, Slurm, LibreOffice. Says what is missing (a minute)"
-	@echo "make bench      time, instructions and peak memory on the longest inputs (some minutes; valgrind counts instructions)"
+	@echo "make bench      time, instructions and peak memory on the longest inputs, and of whole classes (some minutes; valgrind counts instructions)"
 	@echo "make install    puts the built programs, their examples and documents under PREFIX, $(PREFIX) (a second)"
 	@echo "make uninstall  takes away what make install has put there (a second)"
 	@echo "make clean      removes all that was built, and what checks keep of it in the crates (a second)"
@@ -143,7 +143,7 @@ dist: built
 check-dist:
 	@tests/package.sh
 
-# wall time and peak memory of the commands on their longest inputs, and machine steps a second
+# wall time and peak memory of the commands on their longest inputs and on classes, and machine steps a second
 bench: built-calls
 	@bench/run.sh
 

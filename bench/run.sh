@@ -1,7 +1,7 @@
 #!/usr/bin/env bash
 # Wall time (the best of some runs), instructions and peak memory of the tool on its longest inputs, and of the machine's
-# steps. Instructions are counted by valgrind's callgrind, where it is installed: they do not depend on the machine's load.
-# With PROGRAM=draft in the environment the drafts are measured.
+# steps; what an editor waits for, and what classes take. Instructions are counted by valgrind's callgrind, where it is
+# installed: they do not depend on the machine's load. With PROGRAM=draft in the environment the drafts are measured.
 set -eu
 cd "$(dirname "$0")/.."
 tests/built.sh ask mta_sim mta_lab library_calls
@@ -284,3 +284,5 @@ report "lab: check, 65536 lines" "$(best 3 "$lab" check "$work/source" || true)"
   "$(instructions "$lab" check "$work/source")" 65536 line "$(peak "$lab" check "$work/source")"
 bench/names.sh "$lab"
 bench/language.py "$lab"
+# (whole classes would take a draft hours)
+if [ -z "${PROGRAM:-}" ]; then bench/class.py "$lab"; else bench/class.py --task counter --count 20 --every 4 "$lab"; fi

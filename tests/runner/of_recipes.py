@@ -53,6 +53,12 @@ def cases_in(folder, claim=""):
     made(folder, "cases/seen.expect", f"word 8 6\npoints 2\n{claim}".encode())
 
 
+def one_case_in(folder):
+    """Makes one case, of one point."""
+    made(folder, "cases/seen.data", b" .data 3\n .data 0\n")
+    made(folder, "cases/seen.expect", b"word 8 6\n")
+
+
 def path_with(folder):
     """The folders of programs, and before them one that has the lab alone."""
     os.makedirs(os.path.join(folder, "bin"), exist_ok=True)
@@ -84,6 +90,8 @@ kill -KILL $$
 def killed_in(folder):
     """The path of a program that is called mta_lab and is killed."""
     path = os.path.join(folder, "bin/mta_lab")
+    if os.path.lexists(path):  # (it is a link to the true one)
+        os.remove(path)
     made(folder, "bin/mta_lab", KILLED.encode())
     os.chmod(path, 0o755)
     return path
@@ -128,6 +136,10 @@ def by_vpl():
         cases_in(folder, "some word 8 is 77\n")
         status, grade, comments, _ = vpl(folder, ANSWER)
         yield "not decided", (0, None, True), (status, grade, "case seen: not decided, no score of 2" in comments)
+    for source, points in ((ANSWER, "1"), (NEITHER, "0")):
+        with tempfile.TemporaryDirectory(prefix="mta-case-") as folder:
+            one_case_in(folder)
+            yield f"{points} of 1", (0, points), vpl(folder, source)[:2]
     with tempfile.TemporaryDirectory(prefix="mta-case-") as folder:
         cases_in(folder)
         status, grade, comments, _ = vpl(folder, ANSWER, "my answer.asm")
@@ -176,6 +188,11 @@ def by_coderunner():
             yield f"{who}: a hidden value", [], leaks(printed)
             yield f"{who}: a page that nobody gets", False, "page" in found["got"]
             yield f"{who}: what is handed in", source.encode(), tool.read(os.path.join(folder, "answer.asm"))
+    for source, points in ((ANSWER, 1), (NEITHER, 0)):
+        with tempfile.TemporaryDirectory(prefix="mta-case-") as folder:
+            one_case_in(folder)
+            ended = coderunner(folder, source)
+            yield f"{points} of 1", (0, points), (ended.returncode, json.loads(ended.stdout or "{}").get("fraction"))
     with tempfile.TemporaryDirectory(prefix="mta-case-") as folder:
         cases_in(folder, "some word 8 is 77\n")
         ended = coderunner(folder, ANSWER)
@@ -338,7 +355,6 @@ def by_array():
         yield "a part that there is not", 1, task(folder, 0)
         made(folder, "wanted.expect", b"wrod 0 1\n")
         yield "a teacher's error", 1, task(folder, 1)
-        os.remove(os.path.join(folder, "bin/mta_lab"))
         killed_in(folder)
         yield "killed", 137, task(folder, 1)
 
@@ -347,7 +363,7 @@ def by_array():
 KILLED_ONCE = """#!/bin/bash
 if [[ " $* " != *" --part 3/8 "* ]] || ! mkdir once 2>errors; then exec '{lab}' "$@"; fi
 '{lab}' "$@" &
-until [ -e part.3.jsonl ] && [ "$(wc -l <part.3.jsonl)" -ge 3 ]; do sleep 0.02; done
+while kill -0 $! 2>>errors && [ "$(cat part.3.jsonl 2>>errors | wc -l)" -lt 3 ]; do sleep 0.02; done
 kill -KILL $!
 wait $!
 """

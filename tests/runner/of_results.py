@@ -1,5 +1,5 @@
 """Kept results of grade: calls that were stopped and go on, parts, and tables of parts. What is wanted is the table of one
-call that keeps nothing, over the list that sorted() gives."""
+call that keeps nothing, over the list that sorted() gives. And what a call shows on its way, and that it judges once."""
 
 import hashlib
 import json
@@ -229,14 +229,20 @@ def as_dealt():
         yield "as they were decided", ([names[0]], sorted(names)), (kept[-1:], sorted(kept))
 
 
+def seconds_of(folder, seeds):
+    """How long a submission takes by so many seeds."""
+    begin = time.monotonic()
+    lab("grade", "--expect", "long.expect", "--seeds", str(seeds), "--steps", "1000000", "long.asm", folder=folder)
+    return time.monotonic() - begin
+
+
 def seeds_of_a_second(folder):
-    """By how many seeds a submission is judged that takes more than a second here: a power of two."""
+    """By how many seeds a submission takes more than a second here: a power of two. It is asked twice, since other work may
+    keep a call waiting."""
     made(folder, "long.asm", LONG)
     made(folder, "long.expect", b"word 0 1\n")
     for seeds in (2 ** power for power in range(16)):
-        begin = time.monotonic()
-        lab("grade", "--expect", "long.expect", "--seeds", str(seeds), "--steps", "1000000", "long.asm", folder=folder)
-        if time.monotonic() - begin > 1:
+        if all(seconds_of(folder, seeds) > 1 for _ in range(2)):
             break
     return str(seeds)
 
