@@ -1,10 +1,12 @@
 """What `--memory`, `--seconds` and the number of messages bound: all that a process takes, its machines too, all searches of
-`grade` together, claims and endless waits after a search, and files of a million bad lines. And what writing over many
-files takes."""
+`grade` together and those of `--thorough` one after the other, claims and endless waits after a search, and files of a
+million bad lines. And what writing over many files takes."""
 
 import os
+import re
+import subprocess
 
-from program import LAB, Tally, run, write
+from program import LAB, ROOT, Tally, run, write
 
 MEGABYTE = 1_000_000
 # what a process takes at most beside what is bounded: its program and its texts
@@ -20,6 +22,9 @@ SHOWN, DATA_LINES = 10_000, 262_000
 FILES = 2000
 # how many words a long program has
 LONG = 16_000
+# how many states the eight philosophers of bench/search_programs.sh have, which take 280 megabytes (LAB_REFERENCE.md, "What a
+# search takes"); fewer megabytes than that, and more
+PHILOSOPHERS, TOO_FEW, ENOUGH = 734_871, 200, 800
 
 
 def lab(*words, **how):
@@ -91,6 +96,21 @@ def of_grade(tally, folder):
             tally.check(f"{what} by {size} MB: {ended}", ended.out.count(b"ended by --memory") == len(paths))
             tally.check(f"{what} by {size} MB with {jobs} jobs takes {ended.peak // MEGABYTE} MB",
                         ended.peak <= size * MEGABYTE * MORE + BESIDE)
+
+
+def of_thorough(tally, folder):
+    """Searches with more and more megabytes: up to too few of them a right program is not decided, up to enough it is right."""
+    script = os.path.join(ROOT, "bench/search_programs.sh")
+    path = write(folder, "eight.asm", subprocess.run([script, "philosophers"], capture_output=True, check=True).stdout)
+    expected = write(folder, "eight.expect", b"word 64 8\nfinished\n")
+    for size, status, row in ((TOO_FEW, 5, rb"not decided\tsome schedules, \d+ states, ended by --memory, and 1 seed"),
+                              (ENOUGH, 0, b"right\tevery schedule, %d states, and 1 seed" % PHILOSOPHERS)):
+        ended = lab("grade", "--explore", "--thorough", "--memory", str(size), "--jobs", "1", "--seeds", "1", "--expect", expected,
+                    path)
+        tally.runs += 1
+        found = re.search(rb"eight\.asm\t" + row + rb"\n$", ended.out)
+        tally.check(f"--thorough by {size} MB: {ended}, {ended.out[-200:]}", ended.status == status and found)
+        tally.check(f"--thorough by {size} MB takes {ended.peak // MEGABYTE} MB", ended.peak <= size * MEGABYTE * MORE + BESIDE)
 
 
 def winding(words):
@@ -177,6 +197,7 @@ def part(_, folder):
     of_memory(tally, folder)
     of_waits(tally, folder)
     of_grade(tally, folder)
+    of_thorough(tally, folder)
     of_time(tally, folder)
     of_messages(tally, folder)
     of_warnings(tally, folder)
