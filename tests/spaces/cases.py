@@ -193,7 +193,7 @@ class Case:
         by_runs = {told["claim"]["line"] for told in outcomes if told["claim"]}
         by_schedules = {told["claim"]["line"] for told in objects if told["object"] == "broken"}
         wanted = {number for number, line in enumerate(self.expected + self.claims, 1) if line in broken(self.space, self.claims)}
-        yield differs("claims that are told twice", by_runs & by_schedules, set())
+        yield differs("claims that are reported twice", by_runs & by_schedules, set())
         yield differs("broken claims", by_runs | by_schedules, wanted)
         for told in outcomes:
             yield of_judgement(self.space, self.expected, told)
@@ -341,7 +341,7 @@ def line_missed(expected, world):
 
 
 def of_judgement(space, expected, told):
-    """In what an end that seeds reached is judged otherwise than each of the worlds that are told as it is."""
+    """In what an end that seeds reached is judged otherwise than each of the worlds that are shown alike."""
     if told["end"] == "steps":
         return None
     alike = [world for world in space.ends() if shown.by_world(space, world) == shown.by_object(told)]
