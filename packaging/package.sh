@@ -50,6 +50,12 @@ copyright() {
   done
 }
 
+# the same for Debian, whose systems have the text of the Apache License
+debian_copyright() {
+  sed '/^ *Apache License$/,/^END OF TERMS AND CONDITIONS$/c\
+The Apache License, version 2.0: /usr/share/common-licenses/Apache-2.0.' "$1"
+}
+
 # leaves the files below a folder with the modes of any umask, and the commit's time
 settle() {
   chmod -R u=rwX,go=rX "$1"
@@ -122,7 +128,7 @@ lay_out_debian() {
   # Debian has the changes packed, under a name of its own
   sed 's/CHANGELOG\.md/changelog.gz/' "$from/README.md" >"$doc/README.md"
   cp -r "$from/CONTRIBUTING.md" "$from/docs" "$from/examples" "$from/exercises" "$from/pages" "$from/editors" "$from/BUILD" "$doc"
-  cp "$from/COPYRIGHT" "$doc/copyright"
+  debian_copyright "$from/COPYRIGHT" >"$doc/copyright"
   gzip -9nc "$from/CHANGELOG.md" >"$doc/changelog.gz"
   debian_changelog | gzip -9nc >"$doc/changelog.Debian.gz"
   control "$to" >"$to/DEBIAN/control"
