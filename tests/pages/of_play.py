@@ -67,7 +67,9 @@ def is_as_in_simulator(page, graph, source, what):
     steps = sum(int(line.split()[2]) for line in text.splitlines())
     words = sum(count for count, _, _ in graph.data["start"]["memory"])
     places = worlds.debugged_by(page.folder, source, schedule, graph.data["streams"], words, [steps])[steps]
-    differing = [(place, value, places.get(place)) for place, value in page.script(PLACES) if value != places.get(place)]
+    # (the debugger has no line for a target register of 0, which the page shows of t0 if that is a handler's address)
+    came_to = [(place, value, places.get(place, "0")) for place, value in page.script(PLACES)]
+    differing = [(place, value, is_so) for place, value, is_so in came_to if value != is_so]
     tally.same(f"{what}: what mta_sim comes to by its schedule", differing, [])
 
 
