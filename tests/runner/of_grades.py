@@ -170,6 +170,52 @@ def feedback_in_a_shell():
             yield f"{name!r}: files", [name], os.listdir(os.path.join(folder, "in"))
 
 
+# of each submission of a class what its text and its page are called
+CALLED = (
+    # Moodle's folders, of each number, with a file name that they share and with one of its own; a folder in one of them
+    {"all/Ann Lee_4711_assignsubmission_file_/task.asm": "Ann Lee_4711_assignsubmission_file_task",
+     "all/Bo_12_assignsubmission_file/task.asm": "Bo_12_assignsubmission_file_task",
+     "all/C. D'E_13_assignsubmission_file/x/my task.asm": "C. D'E_13_assignsubmission_file_my_task",
+     "all/..\tF\x1b|_14_assignsubmission_file/task.asm": "_F___14_assignsubmission_file_task"},
+    # two files of a student that differ in their folder or ending alone
+    {"Ann_1_assignsubmission_file/a/task.asm": "Ann_1_assignsubmission_file_task",
+     "Ann_1_assignsubmission_file/b/task.asm": "Ann_1_assignsubmission_file_task-2",
+     "Ann_1_assignsubmission_file/b/task.s": "Ann_1_assignsubmission_file_task-3"},
+    # the folders in which all lie are left out, and so are those that say nothing; a name that is there once has none
+    {"in/1/ann/task.asm": "1_ann_task", "in/1/bob/./task.asm": "1_bob_task", "in/2/.bob/task.asm": "2_bob_task",
+     "in/own.asm": "own", "in/task.asm": "task"},
+    # no name twice, also if one is that which another one is given
+    {"a/b/t.asm": "a_b_t", "a/b_t.asm": "b_t", "a_b/t.asm": "a_b_t-2", "t.asm": "t"},
+    {"s.asm": "s", "s.s": "s-3", "s-2.asm": "s-2"},
+)
+
+
+@checks.others("grade/feedback_names")
+def feedback_names():
+    """A text and a page have names of their own, which say the folder where files are called alike, and that of the student
+    where Moodle made it: by any number of jobs, for a part of the class too, and if the results were kept."""
+    for place, wanted in enumerate(CALLED):
+        names = sorted(wanted)
+        with tempfile.TemporaryDirectory(prefix="mta-case-") as folder:
+            made(folder, "w.expect", b"word 0 1\n")
+            for number, name in enumerate(names):
+                made(folder, name, b" .entry 0\n QUIT\n .data %d\n" % (number + 2))
+            call = ("grade", "--expect", "w.expect", "--seeds", "2")
+            for to, words in (("one", ("--jobs", "1")), ("two", ("--jobs", "3")), ("kept", ("--results", "r.jsonl")),
+                              ("again", ("--results", "r.jsonl"))):
+                ended = lab(*call, *words, "--feedback", to, *names, folder=folder)
+                yield f"{place} {to}: status", (3, b""), (ended.status, ended.err)
+                yield f"{place} {to}", sorted(f"{name}.{end}" for name in wanted.values() for end in ("html", "txt")), sorted(
+                    os.listdir(os.path.join(folder, to)))
+                pages = [shown(os.path.join(folder, to, f"{wanted[name]}.html")) for name in names]
+                yield f"{place} {to}: whose they are", [str(number + 2) for number, _ in enumerate(names)], [
+                    str(page["start"]["memory"][0][1]) for page in pages]
+            for part in ("1", "2"):
+                lab(*call, "--part", f"{part}/2", "--feedback", "parts", *names, folder=folder)
+            yield f"{place} parts", sorted(os.listdir(os.path.join(folder, "one"))), sorted(
+                os.listdir(os.path.join(folder, "parts")))
+
+
 @checks.others("grade/points")
 def points():
     """The points of a submission are those of the cases by which it is right, in each format that has them."""
@@ -274,9 +320,9 @@ def pages():
         for name, text in sources.items():
             made(folder, name, text)
         names = [*sources, "none.asm"]
-        # by the names of all submissions, in their order; of right.asm and those that did not run there is no page
-        wanted = {"a/racing.asm": "racing", "b/racing.asm": "racing-2", "b/racing-2.asm": "racing-2-2",
-                  "c/racing.s": "racing-3", "odd #1.asm": "odd__1"}
+        # where file names are alike, their folders stand before them; of right.asm and those that did not run there is no page
+        wanted = {"a/racing.asm": "a_racing", "b/racing.asm": "b_racing", "b/racing-2.asm": "racing-2",
+                  "c/racing.s": "c_racing", "odd #1.asm": "odd__1"}
         for kind, words in (("run", ("--seeds", "4")), ("graph", ("--explore",))):
             plain = paged(folder, *words, *names)
             status, err, objects = paged(folder, *words, "--pages", kind, *names)

@@ -309,6 +309,29 @@ def imported(worksheet):
             for row in fields if re.fullmatch(r"Participant \d+", row["Identifier"])}
 
 
+def taken_back(name):
+    """The number of the student whom a feedback file of this name is for, and what it is called then: as the import takes the
+    name apart, by its first four underscores."""
+    parts = name.split("_", 4)
+    return (parts[1], parts[4]) if len(parts) == 5 and parts[1].isdigit() and parts[2] == "assignsubmission" else None
+
+
+@checks.others("recipes/moodle_feedback")
+def back_by_moodle():
+    """The texts and pages of Moodle's folders, in one folder, are each of one student by their names."""
+    folders = {"Ann Lee_4711_assignsubmission_file_": "answer", "J\u00fcrgen O'Hara, Jr._0815_assignsubmission_file": "neither",
+               "Participant 7_12_assignsubmission_file_": "answer"}
+    with tempfile.TemporaryDirectory(prefix="mta-case-") as folder:
+        cases_in(folder)
+        for name, who in folders.items():
+            made(folder, f"{name}/my lock.asm", STUDENTS[who][0].encode())
+        lab("grade", "--cases", "cases", "--format", "moodle", "--feedback", "back", *(
+            f"{name}/my lock.asm" for name in folders), folder=folder)
+        # (by the case that is seen the answer is right, so it has no page)
+        wanted = [("0815", "my_lock.html"), ("0815", "my_lock.txt"), ("12", "my_lock.txt"), ("4711", "my_lock.txt")]
+        yield "taken back", wanted, sorted(map(taken_back, os.listdir(os.path.join(folder, "back"))), key=str)
+
+
 @checks.others("recipes/moodle")
 def by_moodle():
     """Folders as Moodle makes them, of names that students have: the grade of each number."""

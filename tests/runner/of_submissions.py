@@ -189,7 +189,7 @@ def links_out():
         said = f"mta_lab: warning: in/out.asm: a symbolic link that leads out of its folder, to {os.path.realpath(folder)}/other/secret.asm"
         ended = lab(*call, "in/own.asm", "in/near.asm", "by/own.asm", "in/out.asm", folder=folder)
         yield "own", (3, (said + "\n").encode()), (ended.status, ended.err)
-        yield "pages", ["near.html", "out.html", "own-2.html", "own.html"], sorted(os.listdir(os.path.join(folder, "pages")))
+        yield "pages", ["by_own.html", "in_own.html", "near.html", "out.html"], sorted(os.listdir(os.path.join(folder, "pages")))
         ended = lab(*call[:5], "--no-links", "in/own.asm", "in/near.asm", "by/own.asm", "in/out.asm", folder=folder)
         yield "no links", ["wrong", "not read", "wrong", "not read"], [
             it.split("\t")[1] for it in ended.out.decode().splitlines()[1:]]

@@ -8,9 +8,10 @@ use crate::option_sums::{cases_sum, options_sum};
 use crate::page_folder::{PageFolder, reserve_all};
 use crate::progress::Progress;
 use crate::side_by_side::{jobs_of, judge_class};
+use crate::student_folders::note_several;
 use class_results::{ClassPart, class_of, judged_in};
 use expectation_messages::parts::{CommandAnswer, Inputs, LabFault};
-use lab_requests::GradeRequest;
+use lab_requests::{GradeFormat, GradeRequest};
 use printed_lines::Printer;
 use program_pages::searches::Console;
 use result_lines::ClassHead;
@@ -52,6 +53,7 @@ pub fn grade<X: Threads + Wait + Sync + Clock, F: Files, R: Read, W: Write, E: W
     } = submissions_of(alloc, request)?;
     let cases = read_cases(alloc, inputs, request.cases)?;
     let mut pages = PageFolder::open(alloc, inputs, request, &class, part)?;
+    note_rows(alloc, &mut pages.notes.lines, request.format, &judged)?;
     let jobs = jobs_of(rt, request, judged.len());
     let grading = Grading::of(request, &judged, &cases, jobs);
     let kept = match request.results {
@@ -72,6 +74,23 @@ pub fn grade<X: Threads + Wait + Sync + Clock, F: Files, R: Read, W: Write, E: W
     };
     judge_class(rt, alloc, &grading, &mut flow, &mut desk)?;
     answer_of(alloc, &grading, flow)
+}
+
+/// Notes what the rows of a format do not say by themselves.
+pub(crate) fn note_rows(
+    alloc: Global,
+    notes: &mut String,
+    format: GradeFormat,
+    submissions: &[&str],
+) -> Result<(), AllocError> {
+    match format {
+        GradeFormat::Moodle => note_several(alloc, notes, submissions),
+        GradeFormat::Text
+        | GradeFormat::Tsv
+        | GradeFormat::Json
+        | GradeFormat::Junit
+        | GradeFormat::Gradescope => Ok(()),
+    }
 }
 
 /// What is left to be said when each submission has its row.

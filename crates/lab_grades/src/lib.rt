@@ -12,6 +12,7 @@ mod page_folder;
 mod page_names;
 mod progress;
 mod side_by_side;
+mod student_folders;
 mod verdict_pages;
 
 pub use grading::grade;

@@ -1,6 +1,6 @@
 //! The command `grade --merge`.
 
-use crate::grading::whole_report;
+use crate::grading::{note_rows, whole_report};
 use crate::kept_results::{line_in, no_results, note_damaged};
 use class_results::{KeptPlace, MergeFault, MergedTable, class_of, merged_places, merged_table};
 use expectation_messages::parts::{CommandAnswer, Inputs, LabFault, Status};
@@ -61,6 +61,7 @@ pub fn merge<F: Files, R: Read, W: Write>(
     };
     let merged = merged_table(alloc, &class, &places)?;
     let table = table_of(alloc, &merged, &gathered.results, &mut notes)?;
+    note_rows(alloc, &mut notes, form.format, &table.paths)?;
     print_table(alloc, form, &table, printer)?;
     let output = whole_report(alloc, form, &table.paths, &table.rows)?;
     Ok(CommandAnswer {
