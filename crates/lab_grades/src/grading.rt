@@ -61,7 +61,7 @@ pub fn grade<X: Threads + Wait + Sync + Clock, F: Files, R: Read, W: Write, E: W
             reserve_all(alloc, inputs, &class)?;
             let head = head_for(alloc, &grading, &class)?;
             let notes = &mut pages.notes.lines;
-            Some(KeptResults::open(alloc, inputs, path, head, notes)?)
+            Some(KeptResults::open(rt, alloc, inputs, path, head, notes)?)
         }
         None => None,
     };

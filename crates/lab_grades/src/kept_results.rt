@@ -3,6 +3,7 @@
 use class_results::{Checksum, ResultBasis};
 use expectation_messages::parts::{Inputs, LabFault};
 use plain_text::push_plain;
+use rayon::prelude::*;
 use result_lines::judges::VerdictKind;
 use result_lines::reports::GradeRow;
 use result_lines::{ClassHead, KeptResult, ResultLine, head_line, read_line, result_line};
@@ -11,9 +12,13 @@ use std::collections::HashMap;
 use std::io::Read;
 use std::rt::Files;
 use std::str;
+use std::thread::Threads;
 
 /// The checksum that stands for the text of a submission that can't be read.
 pub(crate) const NO_TEXT: Checksum = [0; 32];
+
+/// How many lines a core reads at least, if another one is to read too.
+const FEWEST_LINES: usize = 64;
 
 /// The results that a file has, and the file, to which those of this call are added.
 #[derive(Drop)]
@@ -47,7 +52,8 @@ struct Found {
 impl<'a, T> KeptResults<'a, T> {
     /// The file of this path for the results of a class, which is made where nothing is. The lines that are not whole
     /// are told in the notes. A file that has no results is refused, and nothing of it changes.
-    pub(crate) fn open<F: Files<File = T>, R: Read>(
+    pub(crate) fn open<X: Threads + Sync, F: Files<File = T>, R: Read>(
+        rt: &X,
         alloc: Global,
         inputs: &Inputs<'_, F, R>,
         path: &'a str,
@@ -60,7 +66,7 @@ impl<'a, T> KeptResults<'a, T> {
         }
         let mut file = inputs.open_to_append(alloc, path)?;
         let text = inputs.read_again(alloc, path)?;
-        let found = found_in(alloc, path, &text, &head, notes)?;
+        let found = found_in(rt, alloc, path, &text, &head, notes)?;
         let mut added = String::new(alloc);
         if !found.is_ended {
             added.push_str("\n")?;
@@ -137,7 +143,8 @@ fn latest_of(latest: &[Option<Checksum>], place: Option<usize>) -> Option<Checks
 }
 
 /// What a file of results has for a call.
-fn found_in(
+fn found_in<X: Threads + Sync>(
+    rt: &X,
     alloc: Global,
     path: &str,
     text: &[u8],
@@ -152,11 +159,13 @@ fn found_in(
         is_ended: text.is_empty() || text.ends_with(b"\n"),
     };
     let wanted = head_line(alloc, head)?;
-    for (index, line) in text.split(|byte| *byte == b'\n').enumerate() {
+    let lines = lines_in(alloc, text)?;
+    for (index, said) in read_lines(rt, alloc, &lines)?.into_iter().enumerate() {
+        let line = lines.get(index).copied().unwrap_or(b"");
         if line.is_empty() && (index > 0 || text.is_empty()) {
             continue;
         }
-        match line_in(alloc, line)? {
+        match said {
             ResultLine::Head(_) => {
                 found.has_head = wanted.as_bytes().strip_suffix(b"\n") == Some(line)
             }
@@ -193,6 +202,35 @@ impl Found {
         }
         Ok(())
     }
+}
+
+/// The lines of a text, without their ends.
+fn lines_in(alloc: Global, text: &[u8]) -> Result<Vec<&[u8]>, AllocError> {
+    let mut lines = Vec::new(alloc);
+    for line in text.split(|byte| *byte == b'\n') {
+        lines.push(line)?;
+    }
+    Ok(lines)
+}
+
+/// What each of these lines says, read over all cores: half of what a call takes that finds all results kept.
+fn read_lines<X: Threads + Sync>(
+    rt: &X,
+    alloc: Global,
+    lines: &[&[u8]],
+) -> Result<Vec<ResultLine>, AllocError> {
+    let said = (0..lines.len())
+        .into_par_iter()
+        .map(|place: usize| -> Result<ResultLine, AllocError> {
+            let line = lines.get(place).copied().ok_or(AllocError)?;
+            line_in(alloc, line)
+        })
+        .with_min_len(FEWEST_LINES)
+        .collect::<Result<Vec<ResultLine>, AllocError>>(rt, alloc);
+    let Ok(Ok(said)) = said else {
+        return Err(AllocError);
+    };
+    Ok(said)
 }
 
 /// What the bytes of a line say.
