@@ -274,6 +274,11 @@ def progress():
             yield f"{jobs}: not decided, and jobs", {(True, jobs)}, {(line[1] == min(line[0], 1), line[2]) for line in lines}
             yield f"{jobs}: nothing else", b"", REACHED.sub(b"", written).replace(WIPED, b"")
             yield f"{jobs}: it is wiped", True, written.endswith(WIPED)
+        twice = ["--seeds", str(2 * int(call[call.index("--seeds") + 1]))]
+        seeds = call.index("--seeds")
+        status, _, written = with_terminal(*call[:seeds], *twice, *call[seeds + 2:], "1", names[1])
+        yield "while the only one is judged", (0, True), (
+            status, written.startswith(b"\r0 of 1 judged, 0 not decided, jobs 1, 1 s\x1b[K"))
 
 
 def processor_seconds(folder, words):

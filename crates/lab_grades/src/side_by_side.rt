@@ -45,7 +45,9 @@ pub(crate) fn judge_class<X: Threads + Wait + Sync + Clock, F: Files, R: Read, W
     flow: &mut ClassFlow<'_, '_, '_, F::File>,
     desk: &mut Desk<'_, '_, '_, '_, '_, '_, F, R, W, X, E>,
 ) -> Result<(), LabFault> {
-    let judged = if grading.jobs > 1 {
+    // (one job has a thread of its own where progress is shown, unless its searches show theirs)
+    let is_watched = flow.is_shown() && grading.request.explored.is_none();
+    let judged = if grading.jobs > 1 || is_watched {
         judge_side_by_side(rt, alloc, grading, flow, desk)
     } else {
         judge_in_turn(rt, alloc, grading, flow, desk)
