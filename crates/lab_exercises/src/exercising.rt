@@ -7,6 +7,7 @@ use crate::hints::push_hint;
 use crate::judging::{QUICK, THOROUGH, judge};
 use crate::listing::{ProgramState, push_line, widest};
 use crate::originals::{is_unedited, reset};
+use crate::part_files::{read_part, read_part_or_why};
 use crate::telling::{folder_option, push_judgement};
 use asked_programs::{WarningChoice, warnings_of};
 use exercise_advice::searches::Console;
@@ -179,7 +180,7 @@ pub(crate) fn tell<X: Threads + Sync + Clock, F: Files, R: Read, E: Write>(
     } else {
         show_warnings(alloc, inputs, exercise, console)?;
         let path = exercise.file(alloc, "advice")?;
-        let advice = inputs.read(alloc, &path)?;
+        let advice = read_part(alloc, inputs, &path)?;
         let sentence = sentence_on(alloc, &path, &advice, &judgement)?;
         push_judgement(
             alloc,
@@ -207,7 +208,7 @@ fn show_warnings<F: Files, R: Read, C: Clock, E: Write>(
 ) -> Result<(), LabFault> {
     let path = exercise.file(alloc, "start.asm")?;
     // (a program that can't be read is said to be so by its verdict)
-    let Ok(text) = inputs.read_or_why(alloc, &path)? else {
+    let Ok(text) = read_part_or_why(alloc, inputs, &path)? else {
         return Ok(());
     };
     let warnings = warnings_of(alloc, &path, &text, WarningChoice::OfProgram, MOST_WARNINGS)?;
@@ -245,7 +246,7 @@ pub(crate) fn show_hint<F: Files, R: Read>(
     hint: usize,
 ) -> Result<CommandAnswer, LabFault> {
     let path = exercise.file(alloc, "hints.md")?;
-    let bytes = inputs.read(alloc, &path)?;
+    let bytes = read_part(alloc, inputs, &path)?;
     let mut out = String::new(alloc);
     let count = push_hint(&mut out, str::from_utf8(&bytes).unwrap_or(""), hint)?;
     if hint > count {

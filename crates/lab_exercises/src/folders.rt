@@ -1,5 +1,6 @@
 //! The exercises of a folder.
 
+use crate::part_files::read_part;
 use plain_text::{file_name, plain};
 use std::alloc::{AllocError, Global};
 use std::io::Read;
@@ -84,7 +85,7 @@ fn exercise_of<F: Files, R: Read>(
     let slash = slash_after(folder);
     let path = format!(in alloc; "{folder}{slash}{name}")?;
     let task = format!(in alloc; "{path}/task.md")?;
-    let text = inputs.read(alloc, &task)?;
+    let text = read_part(alloc, inputs, &task)?;
     Ok(Exercise {
         number,
         path,

@@ -13,6 +13,7 @@ mod judging;
 mod listing;
 mod missed_words;
 mod originals;
+mod part_files;
 mod parts;
 mod shortfall_words;
 mod telling;

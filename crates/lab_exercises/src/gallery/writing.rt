@@ -9,6 +9,7 @@ use crate::gallery::index::index_page;
 use crate::gallery::levels::{Level, LevelFile, level_of};
 use crate::gallery::shown_programs::ShownProgram;
 use crate::gallery::shown_runs::drawn_steps;
+use crate::part_files::read_part;
 use lab_requests::GalleryRequest;
 use plain_text::plain;
 use program_pages::searches::Console;
@@ -112,7 +113,7 @@ fn read_levels<F: Files, R: Read>(
     let slash = slash_after(exercises);
     let path = format!(in alloc; "{exercises}{slash}levels")?;
     let bytes = match inputs.files.symlink_metadata(&path) {
-        Ok(_) => inputs.read(alloc, &path)?,
+        Ok(_) => read_part(alloc, inputs, &path)?,
         Err(_) => Vec::new(alloc),
     };
     Ok(LevelFile { path, bytes })
