@@ -5,6 +5,7 @@ use crate::failing_pages::{AskedPage, asked_page};
 use crate::folders::{Exercise, read_exercises};
 use crate::hints::push_hint;
 use crate::judging::{QUICK, THOROUGH, judge};
+use crate::left_out::{LeftOut, LookedFor};
 use crate::listing::{ProgramState, push_line, widest};
 use crate::originals::{is_unedited, reset};
 use crate::part_files::{read_part, read_part_or_why};
@@ -107,7 +108,11 @@ fn list<X: Threads + Sync + Clock, F: Files, R: Read, E: Write>(
         out.push_str(ALL_DONE)?;
     }
     push_next(alloc, &mut out, request, open)?;
-    Ok(CommandAnswer::printed(alloc, out, Status::Done))
+    let mut left_out = LeftOut::none(alloc);
+    left_out.add(alloc, inputs.files, request.folder, LookedFor::Exercises)?;
+    let mut answer = CommandAnswer::printed(alloc, out, Status::Done);
+    answer.fault = left_out.fault();
+    Ok(answer)
 }
 
 /// How far the program of an exercise is; nothing is tried of one that is as it was at first.

@@ -10,6 +10,7 @@ mod folders;
 mod gallery;
 mod hints;
 mod judging;
+mod left_out;
 mod listing;
 mod missed_words;
 mod originals;
