@@ -50,6 +50,7 @@ pub fn exercise<X: Threads + Sync + Clock, F: Files, R: Read, E: Write>(
         exercise: found,
         next: exercises.get(place.saturating_add(1)),
         all: &exercises,
+        names_page: true,
     };
     match request.task {
         ExerciseTask::Hint(hint) => show_hint(alloc, inputs, request, found, hint),
@@ -158,6 +159,8 @@ pub(crate) struct AskedExercise<'e> {
     pub exercise: &'e Exercise,
     pub next: Option<&'e Exercise>,
     pub all: &'e [Exercise],
+    /// Whether the path of a page was typed on the command line.
+    pub names_page: bool,
 }
 
 /// What is said of the program of an exercise.
@@ -173,6 +176,7 @@ pub(crate) fn tell<X: Threads + Sync + Clock, F: Files, R: Read, E: Write>(
         exercise,
         next,
         all,
+        names_page,
     } = asked;
     let judgement = judge(rt, alloc, inputs, exercise, THOROUGH, console)?;
     let mut out = String::new(alloc);
@@ -198,7 +202,7 @@ pub(crate) fn tell<X: Threads + Sync + Clock, F: Files, R: Read, E: Write>(
         push_hint_command(alloc, &mut out, request, exercise, 1)?;
     }
     let page = asked_page(alloc, exercise, &judgement, request.task, console)?;
-    let fault = written_page(alloc, inputs, &mut out, page)?;
+    let fault = written_page(alloc, inputs, &mut out, page, names_page)?;
     let mut answer = CommandAnswer::printed(alloc, out, judgement.row.status);
     answer.fault = fault;
     Ok(answer)
@@ -221,25 +225,30 @@ fn show_warnings<F: Files, R: Read, C: Clock, E: Write>(
     Ok(())
 }
 
-/// Writes the page that is asked for, and says so; or why it is not written.
+/// Writes the page that is asked for, and says so; or why it is not written. Links are followed where the path was typed.
 fn written_page<F: Files, R: Read>(
     alloc: Global,
     inputs: &Inputs<'_, F, R>,
     out: &mut String,
     page: AskedPage<'_>,
+    is_typed: bool,
 ) -> Result<Option<LabFault>, AllocError> {
-    match page {
-        AskedPage::NotAsked => Ok(None),
-        AskedPage::Missing(why) => Ok(Some(LabFault::Words(why))),
-        AskedPage::Ready { path, page } => match inputs.write(alloc, path, page.as_bytes()) {
-            Ok(()) => {
-                let file = plain(alloc, path)?;
-                write!(out, "{file}: open it in a browser\n")?;
-                Ok(None)
-            }
-            Err(fault) => Ok(Some(fault)),
-        },
+    let (path, page) = match page {
+        AskedPage::NotAsked => return Ok(None),
+        AskedPage::Missing(why) => return Ok(Some(LabFault::Words(why))),
+        AskedPage::Ready { path, page } => (path, page),
+    };
+    let written = if is_typed {
+        inputs.write(alloc, path, page.as_bytes())
+    } else {
+        inputs.write_derived(alloc, path, page.as_bytes())
+    };
+    if let Err(fault) = written {
+        return Ok(Some(fault));
     }
+    let file = plain(alloc, path)?;
+    write!(out, "{file}: open it in a browser\n")?;
+    Ok(None)
 }
 
 /// A hint of an exercise, by its number from 1.

@@ -199,6 +199,7 @@ impl WatchedExercise<'_, '_> {
             exercise,
             next: self.exercises.get(self.place.saturating_add(1)),
             all: self.exercises,
+            names_page: false,
         };
         let request = ExerciseRequest {
             folder: self.request.folder,
