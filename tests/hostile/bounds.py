@@ -1,6 +1,6 @@
 """What `--memory`, `--seconds` and the number of messages bound: all that a process takes, its machines too, all searches of
 `grade` together and those of `--thorough` one after the other, claims and endless waits after a search, and files of a
-million bad lines. And what writing over many files takes."""
+million bad lines. And what ten thousand messages as JSON take, and writing over many files."""
 
 import os
 import re
@@ -18,6 +18,8 @@ USUAL = 2000
 BAD_LINES = 1_000_000
 # the most errors of a file, and the most warnings beside that of all comments; nearly the most lines of data of a text
 SHOWN, DATA_LINES = 10_000, 262_000
+# how many lines a long text has, and how many names of data are taken of one
+LINES, NAMES = 180_000, 4096
 # how many files are written over
 FILES = 2000
 # how many words a long program has
@@ -176,6 +178,22 @@ def of_warnings(tally, folder):
         tally.check(f"{what} take {ended.seconds:.1f} s", ended.seconds <= 6)
 
 
+def of_labels(tally, folder):
+    """Many messages as JSON, each of which may have a fix and another place of the text: it takes little longer than as text."""
+    labels, names = range(SHOWN), [f"d{at % NAMES}" for at in range(SHOWN)]
+    many = [f"x{at}: QUIT" for at in range(LINES)]
+    for what, lines in (
+            ("labels twice", [f"l{at}: QUIT" for at in (*labels, *labels)] + many),
+            ("named data", many + [f"LOAD.N r1, {name}, 0" for name in names] + [f".data 0 ; d{at}" for at in range(NAMES)]),
+            ("labels of data", [f"x{at}: .data 0" for at in range(LINES)])):
+        source = write(folder, "labels.asm", "\n".join([" .entry x0", *lines, " QUIT", " .data 0", ""]).encode())
+        plain, ended = lab("check", source), lab("check", "--json", source)
+        tally.runs += 2
+        tally.check(f"{what}: {plain}, {ended}", plain.status == ended.status)
+        tally.check(f"{what} take {ended.seconds:.1f} s as JSON, and {plain.seconds:.1f} s as text",
+                    ended.seconds <= 4 * plain.seconds + 2)
+
+
 def of_files(tally, folder):
     """Texts for a class that are written over those of an earlier call take as long as those, and little more: no file is
     compared with each submission by asking the system."""
@@ -201,5 +219,6 @@ def part(_, folder):
     of_time(tally, folder)
     of_messages(tally, folder)
     of_warnings(tally, folder)
+    of_labels(tally, folder)
     of_files(tally, folder)
     return tally

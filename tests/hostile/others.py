@@ -303,6 +303,13 @@ def links(tally, folder):
         tally.check(f"{words[0]} at its own file: {ended}", ended.status != 1 and name in left(place))
         for new in set(left(place)) - set(there):
             os.unlink(os.path.join(place, new))
+    for what in laid(at, "run.html", secret):
+        before = kinds(os.path.join(at, "run.html"))
+        ended = lab(["exercise", "1", "--watch", "--folder", given], b"p\nq\n", setup=lambda: os.chdir(at))
+        tally.runs += 1
+        tally.check(f"exercise --watch at {what}: {ended}", ended.status == 0 and b"run.html: not written: it is " in ended.err)
+        tally.check(f"exercise --watch leaves {what}",
+                    kinds(os.path.join(at, "run.html")) == before and read(secret) == b"root's")
     tally.check("a reset keeps the program", read(os.path.join(task, "start.asm")) == read(os.path.join(task, "original.asm")))
     os.symlink(secret, os.path.join(at, "named"))
     ended = lab(["asm", source, "--out", os.path.join(at, "named")])

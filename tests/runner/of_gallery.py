@@ -162,6 +162,36 @@ def folders():
             (said.status, said.err)
 
 
+@checks.others("gallery/names that are not UTF-8")
+def foreign_names():
+    """What is left out since its name is not UTF-8 is named; all else has its card."""
+    with folder_of() as folder:
+        examples, exercises = (os.path.join(os.fsencode(folder), name) for name in (b"examples", b"exercises"))
+        for name in (b"l\xFCck.asm", b"\xE9.asm"):
+            shutil.copy(os.path.join(examples, b"lock.asm"), os.path.join(examples, name))
+        shutil.copy(os.path.join(examples, b"lock.ends.schedule"), os.path.join(examples, b"lock.\xFC.schedule"))
+        shutil.copytree(os.path.join(exercises, b"03_lock"), os.path.join(exercises, b"04_\xFC"))
+        shutil.copy(os.path.join(exercises, b"03_lock", b"start.asm"), os.path.join(exercises, b"03_lock", b"wrong", b"\xFF.asm"))
+        # (these are none of what is looked for)
+        os.mkdir(os.path.join(exercises, b"notes_\xFC"))
+        tool.write(os.path.join(folder, "examples", "a.txt"), b"")
+        os.rename(os.path.join(examples, b"a.txt"), os.path.join(examples, b"\xFC.txt"))
+        left_out = ("exercises/04_\\xFC", "exercises/03_lock/wrong/\\xFF.asm", "examples/\\xE9.asm", "examples/l\\xFCck.asm",
+                    "examples/lock.\\xFC.schedule")
+        lines = "".join(f"mta_lab: {name}: its name is not UTF-8: rename it to have it read\n" for name in left_out)
+        said = lab("gallery", "made", folder=folder)
+        yield "what is said", (1, b"made/index.html: open it in a browser\n", lines.encode()), (said.status, said.out, said.err)
+        yield "the cards", [*OF_EXERCISES, *OF_EXAMPLES], [card["name"] for card in gallery_in(folder)["cards"]]
+        said = lab("exercise", folder=folder)
+        yield "the list of exercises", (1, True, f"mta_lab: {left_out[0]}: its name is not UTF-8: rename it to have it read\n"), \
+            (said.status, b"0 of 2 are done.\n" in said.out, said.err.decode())
+        for name in OF_EXERCISES:
+            shutil.rmtree(os.path.join(folder, "exercises", name))
+        said = lab("gallery", "made", folder=folder)
+        yield "no exercise beside it", (1, f"mta_lab: {left_out[0]}: its name is not UTF-8: rename it to have it read\n"), \
+            (said.status, said.err.decode())
+
+
 @checks.others("gallery/levels of this repository")
 def shipped():
     """Each level names a program of the repository, and no exercise or example twice. Each exercise has one."""

@@ -5,8 +5,10 @@ use crate::failing_pages::{AskedPage, asked_page};
 use crate::folders::{Exercise, read_exercises};
 use crate::hints::push_hint;
 use crate::judging::{QUICK, THOROUGH, judge};
+use crate::left_out::{LeftOut, LookedFor};
 use crate::listing::{ProgramState, push_line, widest};
 use crate::originals::{is_unedited, reset};
+use crate::part_files::{read_part, read_part_or_why};
 use crate::telling::{folder_option, push_judgement};
 use asked_programs::{WarningChoice, warnings_of};
 use exercise_advice::searches::Console;
@@ -48,6 +50,7 @@ pub fn exercise<X: Threads + Sync + Clock, F: Files, R: Read, E: Write>(
         exercise: found,
         next: exercises.get(place.saturating_add(1)),
         all: &exercises,
+        names_page: true,
     };
     match request.task {
         ExerciseTask::Hint(hint) => show_hint(alloc, inputs, request, found, hint),
@@ -106,7 +109,11 @@ fn list<X: Threads + Sync + Clock, F: Files, R: Read, E: Write>(
         out.push_str(ALL_DONE)?;
     }
     push_next(alloc, &mut out, request, open)?;
-    Ok(CommandAnswer::printed(alloc, out, Status::Done))
+    let mut left_out = LeftOut::none(alloc);
+    left_out.add(alloc, inputs.files, request.folder, LookedFor::Exercises)?;
+    let mut answer = CommandAnswer::printed(alloc, out, Status::Done);
+    answer.fault = left_out.fault();
+    Ok(answer)
 }
 
 /// How far the program of an exercise is; nothing is tried of one that is as it was at first.
@@ -152,6 +159,8 @@ pub(crate) struct AskedExercise<'e> {
     pub exercise: &'e Exercise,
     pub next: Option<&'e Exercise>,
     pub all: &'e [Exercise],
+    /// Whether the path of a page was typed on the command line.
+    pub names_page: bool,
 }
 
 /// What is said of the program of an exercise.
@@ -167,6 +176,7 @@ pub(crate) fn tell<X: Threads + Sync + Clock, F: Files, R: Read, E: Write>(
         exercise,
         next,
         all,
+        names_page,
     } = asked;
     let judgement = judge(rt, alloc, inputs, exercise, THOROUGH, console)?;
     let mut out = String::new(alloc);
@@ -179,7 +189,7 @@ pub(crate) fn tell<X: Threads + Sync + Clock, F: Files, R: Read, E: Write>(
     } else {
         show_warnings(alloc, inputs, exercise, console)?;
         let path = exercise.file(alloc, "advice")?;
-        let advice = inputs.read(alloc, &path)?;
+        let advice = read_part(alloc, inputs, &path)?;
         let sentence = sentence_on(alloc, &path, &advice, &judgement)?;
         push_judgement(
             alloc,
@@ -192,7 +202,7 @@ pub(crate) fn tell<X: Threads + Sync + Clock, F: Files, R: Read, E: Write>(
         push_hint_command(alloc, &mut out, request, exercise, 1)?;
     }
     let page = asked_page(alloc, exercise, &judgement, request.task, console)?;
-    let fault = written_page(alloc, inputs, &mut out, page)?;
+    let fault = written_page(alloc, inputs, &mut out, page, names_page)?;
     let mut answer = CommandAnswer::printed(alloc, out, judgement.row.status);
     answer.fault = fault;
     Ok(answer)
@@ -207,7 +217,7 @@ fn show_warnings<F: Files, R: Read, C: Clock, E: Write>(
 ) -> Result<(), LabFault> {
     let path = exercise.file(alloc, "start.asm")?;
     // (a program that can't be read is said to be so by its verdict)
-    let Ok(text) = inputs.read_or_why(alloc, &path)? else {
+    let Ok(text) = read_part_or_why(alloc, inputs, &path)? else {
         return Ok(());
     };
     let warnings = warnings_of(alloc, &path, &text, WarningChoice::OfProgram, MOST_WARNINGS)?;
@@ -215,25 +225,30 @@ fn show_warnings<F: Files, R: Read, C: Clock, E: Write>(
     Ok(())
 }
 
-/// Writes the page that is asked for, and says so; or why it is not written.
+/// Writes the page that is asked for, and says so; or why it is not written. Links are followed where the path was typed.
 fn written_page<F: Files, R: Read>(
     alloc: Global,
     inputs: &Inputs<'_, F, R>,
     out: &mut String,
     page: AskedPage<'_>,
+    is_typed: bool,
 ) -> Result<Option<LabFault>, AllocError> {
-    match page {
-        AskedPage::NotAsked => Ok(None),
-        AskedPage::Missing(why) => Ok(Some(LabFault::Words(why))),
-        AskedPage::Ready { path, page } => match inputs.write(alloc, path, page.as_bytes()) {
-            Ok(()) => {
-                let file = plain(alloc, path)?;
-                write!(out, "{file}: open it in a browser\n")?;
-                Ok(None)
-            }
-            Err(fault) => Ok(Some(fault)),
-        },
+    let (path, page) = match page {
+        AskedPage::NotAsked => return Ok(None),
+        AskedPage::Missing(why) => return Ok(Some(LabFault::Words(why))),
+        AskedPage::Ready { path, page } => (path, page),
+    };
+    let written = if is_typed {
+        inputs.write(alloc, path, page.as_bytes())
+    } else {
+        inputs.write_derived(alloc, path, page.as_bytes())
+    };
+    if let Err(fault) = written {
+        return Ok(Some(fault));
     }
+    let file = plain(alloc, path)?;
+    write!(out, "{file}: open it in a browser\n")?;
+    Ok(None)
 }
 
 /// A hint of an exercise, by its number from 1.
@@ -245,7 +260,7 @@ pub(crate) fn show_hint<F: Files, R: Read>(
     hint: usize,
 ) -> Result<CommandAnswer, LabFault> {
     let path = exercise.file(alloc, "hints.md")?;
-    let bytes = inputs.read(alloc, &path)?;
+    let bytes = read_part(alloc, inputs, &path)?;
     let mut out = String::new(alloc);
     let count = push_hint(&mut out, str::from_utf8(&bytes).unwrap_or(""), hint)?;
     if hint > count {

@@ -1,5 +1,7 @@
 //! The exercises of a folder.
 
+use crate::left_out::{LeftOut, LookedFor};
+use crate::part_files::read_part;
 use plain_text::{file_name, plain};
 use std::alloc::{AllocError, Global};
 use std::io::Read;
@@ -84,7 +86,7 @@ fn exercise_of<F: Files, R: Read>(
     let slash = slash_after(folder);
     let path = format!(in alloc; "{folder}{slash}{name}")?;
     let task = format!(in alloc; "{path}/task.md")?;
-    let text = inputs.read(alloc, &task)?;
+    let text = read_part(alloc, inputs, &task)?;
     Ok(Exercise {
         number,
         path,
@@ -115,12 +117,22 @@ fn names_of_exercises<F: Files>(
         }
     }
     if names.is_empty() {
-        return Err(LabFault::Words(format!(in alloc;
-            "{folder}: no exercise is here, as a folder 01_NAME; --folder says where they are"
-        )?));
+        let mut left_out = LeftOut::none(alloc);
+        left_out.add(alloc, files, folder, LookedFor::Exercises)?;
+        return Err(no_exercise(alloc, folder, left_out)?);
     }
     names.sort()?;
     Ok(names)
+}
+
+/// What is said of a folder that has no exercise, or none that can be read.
+fn no_exercise(alloc: Global, folder: &str, left_out: LeftOut) -> Result<LabFault, AllocError> {
+    match left_out.fault() {
+        Some(fault) => Ok(fault),
+        None => Ok(LabFault::Words(format!(in alloc;
+            "{folder}: no exercise is here, as a folder 01_NAME; --folder says where they are"
+        )?)),
+    }
 }
 
 /// The name of the exercise that an entry of a folder is.

@@ -1,6 +1,7 @@
 //! The programs of exercises as they were at first.
 
 use crate::folders::Exercise;
+use crate::part_files::{read_part, read_part_or_why, read_to_replace};
 use plain_text::plain;
 use std::alloc::{AllocError, Global};
 use std::io::Read;
@@ -22,8 +23,8 @@ pub(crate) fn is_unedited<F: Files, R: Read>(
     let original = exercise.file(alloc, ORIGINAL)?;
     let start = exercise.file(alloc, "start.asm")?;
     let (Ok(first), Ok(now)) = (
-        inputs.read_or_why(alloc, &original)?,
-        inputs.read_or_why(alloc, &start)?,
+        read_part_or_why(alloc, inputs, &original)?,
+        read_part_or_why(alloc, inputs, &start)?,
     ) else {
         return Ok(false);
     };
@@ -37,13 +38,13 @@ pub(crate) fn reset<F: Files, R: Read>(
     exercise: &Exercise,
 ) -> Result<CommandAnswer, LabFault> {
     let original = exercise.file(alloc, ORIGINAL)?;
-    let first = inputs.read(alloc, &original)?;
+    let first = read_part(alloc, inputs, &original)?;
     let start = exercise.file(alloc, "start.asm")?;
     let kept = exercise.file(alloc, KEPT)?;
     let mut out = String::new(alloc);
     let shown = plain(alloc, &start)?;
     if inputs.files.symlink_metadata(&start).is_ok() {
-        let now = inputs.read_to_replace(alloc, &start)?;
+        let now = read_to_replace(alloc, inputs.files, &start)?;
         if now.as_slice() == first.as_slice() {
             write!(out, "{shown}: it is as it was at first\n")?;
             return Ok(CommandAnswer::printed(alloc, out, Status::Done));

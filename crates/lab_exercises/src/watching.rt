@@ -2,6 +2,7 @@
 
 use crate::exercising::{AskedExercise, place_of, push_progress, show_hint, tell};
 use crate::folders::{Exercise, read_exercises};
+use crate::part_files::read_part_or_why;
 use crate::typed_keys::{TypedKey, read_keys_if_first};
 use crossbeam_channel::{Receiver, RecvTimeoutError};
 use editor_wire::{has_begun, has_second_thread};
@@ -169,7 +170,7 @@ impl WatchedExercise<'_, '_> {
             return Ok(false);
         };
         let start = exercise.file(alloc, "start.asm")?;
-        let text = match inputs.read_or_why(alloc, &start)? {
+        let text = match read_part_or_why(alloc, inputs, &start)? {
             Ok(text) => text,
             Err(_) => Vec::new(alloc),
         };
@@ -198,6 +199,7 @@ impl WatchedExercise<'_, '_> {
             exercise,
             next: self.exercises.get(self.place.saturating_add(1)),
             all: self.exercises,
+            names_page: false,
         };
         let request = ExerciseRequest {
             folder: self.request.folder,

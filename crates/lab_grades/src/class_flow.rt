@@ -73,8 +73,13 @@ impl<'f, 'g, 'r, T> ClassFlow<'f, 'g, 'r, T> {
     /// Whether there is one more to be read, and room for it.
     pub(crate) fn may_read(&self) -> bool {
         self.slots.len() < self.grading.submissions.len()
-            && self.waiting < self.grading.jobs.max(1).saturating_mul(WAITING_EACH)
+            && self.waiting < self.most_waiting()
             && self.bytes <= MOST_BYTES
+    }
+
+    /// How many submissions wait to be judged, or were judged and not yet taken, at most.
+    pub(crate) fn most_waiting(&self) -> usize {
+        self.grading.jobs.max(1).saturating_mul(WAITING_EACH)
     }
 
     /// Whether its progress is shown.

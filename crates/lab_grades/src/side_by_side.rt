@@ -2,7 +2,7 @@
 
 use crate::class_flow::ClassFlow;
 use crate::class_stages::{Desk, Job, Next, Outcome};
-use crossbeam_channel::{Receiver, Sender, unbounded};
+use crossbeam_channel::{Receiver, Sender, bounded};
 use expectation_messages::parts::LabFault;
 use lab_requests::GradeRequest;
 use program_pages::searches::Console;
@@ -91,8 +91,10 @@ fn judge_side_by_side<X: Threads + Wait + Sync + Clock, F: Files, R: Read, W: Wr
     flow: &mut ClassFlow<'_, '_, '_, F::File>,
     desk: &mut Desk<'_, '_, '_, '_, '_, '_, F, R, W, X, E>,
 ) -> Result<(), LabFault> {
-    let (sender, jobs) = unbounded(alloc)?;
-    let (outcomes, receiver) = unbounded(alloc)?;
+    // (with room for all that are on their way, nothing that is sent takes memory, and so none is lost)
+    let room = flow.most_waiting();
+    let (sender, jobs) = bounded(alloc, room)?;
+    let (outcomes, receiver) = bounded(alloc, room)?;
     thread::scope(thread::scope_env(), rt, |scope| {
         let mut started: usize = 0;
         for _ in 0..grading.jobs {

@@ -11,6 +11,8 @@ pub(crate) struct Marked<'t> {
     pub lines: &'t LineStarts<'t>,
     /// The line.
     pub line: SourceLine<'t>,
+    /// Its number, from 1.
+    pub row: usize,
     /// The part of the line that is marked.
     pub mark: Token<'t>,
     /// What is wrong.
@@ -29,6 +31,7 @@ impl<'t> Marked<'t> {
         Marked {
             lines,
             line,
+            row: message.line,
             mark: line.whole.behind(column).before(message.width),
             words: message.words.as_str(),
             help: match &message.help {

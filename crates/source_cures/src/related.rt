@@ -2,7 +2,7 @@
 
 use crate::fixes::Related;
 use crate::marked::Marked;
-use crate::pieces::{is_blank, is_text, operands_of, split_head, trimmed};
+use crate::pieces::{is_blank, operands_of, trimmed};
 use crate::source_lines::SourceLine;
 use crate::warned::tested_on;
 use asm_line::Fault;
@@ -96,7 +96,7 @@ fn name_on<'t>(line: &SourceLine<'t>, name: &[u8]) -> Option<Token<'t>> {
     match line.label() {
         Some(label) if trimmed(label).bytes == name => Some(trimmed(label)),
         _ => {
-            let comment = trimmed(line.whole.cut(b';').1?);
+            let comment = line.comment()?;
             let behind = comment.behind(name.len());
             let is_whole = match behind.bytes.first() {
                 Some(byte) => *byte == b':' || is_blank(*byte),
@@ -149,25 +149,14 @@ fn named_data(alloc: Global, marked: &Marked) -> Result<Option<Related>, AllocEr
     }
     for operand in operands_of(alloc, marked.operation())? {
         let name = without_brackets(operand);
-        for number in 1..=marked.lines.count() {
-            if let Some(line) = marked.lines.line(number)
-                && let Some(piece) = data_named(&line, name)
-            {
-                return place_on(alloc, number, piece, "the data is here");
-            }
+        if let Some(number) = marked.lines.number_named(name)
+            && let Some(line) = marked.lines.line(number)
+            && let Some(piece) = name_on(&line, name)
+        {
+            return place_on(alloc, number, piece, "the data is here");
         }
     }
     Ok(None)
-}
-
-/// The name of the data on a line, where it is this.
-fn data_named<'t>(line: &SourceLine<'t>, name: &[u8]) -> Option<Token<'t>> {
-    let head = split_head(line.statement()).0;
-    if is_text(head, ".data") || is_text(head, ".fill") {
-        name_on(line, name)
-    } else {
-        None
-    }
 }
 
 /// An operand without brackets around it.

@@ -1,30 +1,40 @@
 //! Lines of a source text, and what stands on them.
 
-use crate::pieces::{is_blank, trimmed};
+use crate::pieces::{is_blank, is_text, split_head, trimmed};
 use fault_messages::Token;
 use std::alloc::{AllocError, Global};
+use std::collections::HashMap;
 use text_parts::cut;
 
 /// The most operations of a word that are looked at.
 const MOST_OPERATIONS: usize = 8;
 
-/// Where the lines of a text begin.
+/// Where the lines of a text begin, and which of them say names of data.
 #[derive(Drop)]
 pub(crate) struct LineStarts<'t> {
     text: &'t [u8],
     starts: Vec<usize>,
+    /// Of each name of data the number of the first line that says it.
+    named: HashMap<&'t [u8], usize>,
 }
 
 impl<'t> LineStarts<'t> {
     /// Those of a text.
     pub fn of(alloc: Global, text: &'t [u8]) -> Result<LineStarts<'t>, AllocError> {
         let mut starts = Vec::new(alloc);
+        let mut named = HashMap::new(alloc);
         let mut start: usize = 0;
         for line in text.split(|byte| *byte == b'\n') {
             starts.push(start)?;
+            let whole = Token::of_line(line);
+            note_names(&mut named, &SourceLine { start, whole }, starts.len())?;
             start = start.saturating_add(line.len()).saturating_add(1);
         }
-        Ok(LineStarts { text, starts })
+        Ok(LineStarts {
+            text,
+            starts,
+            named,
+        })
     }
 
     /// The text.
@@ -41,6 +51,41 @@ impl<'t> LineStarts<'t> {
     /// How many lines there are.
     pub fn count(&self) -> usize {
         self.starts.len()
+    }
+
+    /// The number of the first line of data that says a name; None where none does.
+    pub fn number_named(&self, name: &[u8]) -> Option<usize> {
+        self.named.get(name).copied()
+    }
+}
+
+/// Notes the names that a line of data says, as its label and behind its semicolon, with the line's number.
+fn note_names<'t>(
+    named: &mut HashMap<&'t [u8], usize>,
+    line: &SourceLine<'t>,
+    number: usize,
+) -> Result<(), AllocError> {
+    if !line.is_data() {
+        return Ok(());
+    }
+    if let Some(label) = line.label() {
+        let _ = named.entry(trimmed(label).bytes)?.or_insert(number);
+    }
+    if let Some(comment) = line.comment() {
+        let _ = named.entry(first_of(comment).bytes)?.or_insert(number);
+    }
+    Ok(())
+}
+
+/// What stands before the first colon or blank of a piece.
+fn first_of(piece: Token<'_>) -> Token<'_> {
+    match piece
+        .bytes
+        .iter()
+        .position(|byte| *byte == b':' || is_blank(*byte))
+    {
+        Some(place) => piece.before(place),
+        None => piece,
     }
 }
 
@@ -75,6 +120,18 @@ impl<'t> SourceLine<'t> {
             (label, Some(_)) => Some(label),
             (_, None) => None,
         }
+    }
+
+    /// What stands behind its semicolon, without blanks at its ends; None where it has none.
+    pub fn comment(&self) -> Option<Token<'t>> {
+        let (_, behind) = self.whole.cut(b';');
+        Some(trimmed(behind?))
+    }
+
+    /// Whether it adds words of data.
+    pub fn is_data(&self) -> bool {
+        let head = split_head(self.statement()).0;
+        is_text(head, ".data") || is_text(head, ".fill")
     }
 
     /// What stands behind its label and before its comment, without blanks at its ends.

@@ -8,6 +8,9 @@ use crate::source_lines::SourceLine;
 use fault_messages::Token;
 use std::alloc::AllocError;
 
+/// How many lines before a marked one are looked at.
+const MOST_LINES_BEFORE: usize = 1_000;
+
 /// Proposes what a sentence about a warning describes.
 pub(crate) fn propose_warned(out: &mut Proposals, marked: &Marked) -> Result<(), AllocError> {
     let help = marked.help;
@@ -162,17 +165,19 @@ fn propose_pointer(
     }
 }
 
-/// The line and the number of the last LIT to a register before the marked line.
+/// The line and the number of the last LIT to a register before the marked line, among the lines that are looked at.
 fn literal_before<'t>(
     out: &Proposals,
     marked: &Marked<'t>,
     base: &[u8],
 ) -> Result<Option<(SourceLine<'t>, Token<'t>)>, AllocError> {
-    for number in (1..=marked.lines.count()).rev() {
+    let first = marked.row.saturating_sub(MOST_LINES_BEFORE).max(1);
+    let last = marked.row.saturating_sub(1);
+    for number in (first..=last).rev() {
         let Some(line) = marked.lines.line(number) else {
             return Ok(None);
         };
-        if line.start < marked.line.start && is_text(split_head(line.statement()).0, "LIT") {
+        if is_text(split_head(line.statement()).0, "LIT") {
             let operands = operands_of(out.alloc(), line.statement())?;
             if let [register, number] = operands.as_slice()
                 && register.bytes == base

@@ -25,6 +25,7 @@ pub const MOST_BYTES: usize = 8_000_000;
 pub struct FixFinder<'t> {
     alloc: Global,
     text: &'t [u8],
+    cures: CureFinder<'t>,
     before: Vec<Message>,
     count: usize,
     messages_left: usize,
@@ -42,9 +43,11 @@ impl<'t> FixFinder<'t> {
         }
         let before = check_source(alloc, text)?;
         let count = count_of(alloc, text)?;
+        let cures = CureFinder::of(alloc, text)?;
         Ok(Some(FixFinder {
             alloc,
             text,
+            cures,
             before,
             count,
             messages_left: MOST_MESSAGES,
@@ -79,7 +82,7 @@ impl<'t> FixFinder<'t> {
     /// What a message's sentence describes.
     fn proposed(&self, message: &Message) -> Result<Vec<Fix>, AllocError> {
         if self.messages_left > 0 {
-            CureFinder::of(self.alloc, self.text)?.proposed(message)
+            self.cures.proposed(message)
         } else {
             Ok(Vec::new(self.alloc))
         }

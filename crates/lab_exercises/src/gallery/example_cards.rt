@@ -5,6 +5,7 @@ use crate::gallery::folder_lists::names_ending;
 use crate::gallery::sentences::sentence_of_source;
 use crate::gallery::shown_programs::ShownProgram;
 use crate::gallery::writing::{Gallery, card_of};
+use crate::part_files::read_part;
 use asked_programs::read_asked_program;
 use expectation_files::Requirements;
 use processor::Step;
@@ -77,6 +78,8 @@ fn read_example<F: Files, R: Read>(
 ) -> Result<Example, LabFault> {
     let slash = slash_after(folder);
     let path = format!(in alloc; "{folder}{slash}{name}.asm")?;
+    // (what is no regular file is refused before it is waited for)
+    read_part(alloc, inputs, &path)?;
     let program = read_asked_program(alloc, inputs, &path, None)?;
     let schedule = shown_schedule(alloc, inputs, folder, name)?;
     let steps = steps_by(alloc, inputs, &program, folder, schedule.as_ref())?;
@@ -168,5 +171,6 @@ fn steps_by<F: Files, R: Read>(
     };
     let slash = slash_after(folder);
     let path = format!(in alloc; "{folder}{slash}{schedule}.schedule")?;
+    read_part(alloc, inputs, &path)?;
     read_steps(alloc, inputs, program, &path)
 }

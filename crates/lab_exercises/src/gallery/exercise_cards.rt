@@ -8,6 +8,7 @@ use crate::gallery::levels::Level;
 use crate::gallery::sentences::sentence_of_task;
 use crate::gallery::shown_programs::ShownProgram;
 use crate::gallery::writing::{Gallery, card_of};
+use crate::part_files::read_part;
 use plain_text::{file_name, plain};
 use program_pages::searches::Console;
 use std::alloc::{AllocError, Global};
@@ -41,11 +42,11 @@ pub(crate) fn exercise_card<X: Threads + Sync + Clock, F: Files, R: Read, E: Wri
     let source = exercise.file(alloc, "wrong/")?;
     let path = format!(in alloc; "{source}{program}.asm")?;
     // (one that can't be read is refused by the reason why)
-    inputs.read(alloc, &path)?;
+    read_part(alloc, inputs, &path)?;
     let Some(failing) = failing_program(rt, alloc, inputs, exercise, &path, console)? else {
         return Err(not_failing(alloc, &path)?);
     };
-    let task = inputs.read(alloc, &exercise.file(alloc, "task.md")?)?;
+    let task = read_part(alloc, inputs, &exercise.file(alloc, "task.md")?)?;
     let head = CardHead {
         kind: CardKind::Exercise,
         name: String::from_str(alloc, name)?,

@@ -1,6 +1,6 @@
 //! The command `gallery`.
 
-use crate::folders::read_exercises;
+use crate::folders::{Exercise, read_exercises};
 use crate::gallery::cards::{Card, CardHead, CardRun};
 use crate::gallery::example_cards::{ADVICE, example_card};
 use crate::gallery::exercise_cards::exercise_card;
@@ -9,6 +9,8 @@ use crate::gallery::index::index_page;
 use crate::gallery::levels::{Level, LevelFile, level_of};
 use crate::gallery::shown_programs::ShownProgram;
 use crate::gallery::shown_runs::drawn_steps;
+use crate::left_out::{LeftOut, LookedFor};
+use crate::part_files::read_part;
 use lab_requests::GalleryRequest;
 use plain_text::plain;
 use program_pages::searches::Console;
@@ -93,7 +95,33 @@ pub fn write_gallery<X: Threads + Sync + Clock, F: Files, R: Read, E: Write>(
     inputs.write_derived(alloc, &path, page.as_bytes())?;
     let shown = plain(alloc, &path)?;
     let told = format!(in alloc; "{shown}: open it in a browser\n")?;
-    Ok(CommandAnswer::printed(alloc, told, Status::Done))
+    let mut answer = CommandAnswer::printed(alloc, told, Status::Done);
+    answer.fault = names_left_out(alloc, inputs.files, request, &exercises)?;
+    Ok(answer)
+}
+
+/// What is said of exercises, their wrong programs, examples and schedules that have no card, or are not shown on it, since
+/// their names are not UTF-8; None where there are none.
+fn names_left_out<F: Files>(
+    alloc: Global,
+    files: &F,
+    request: &GalleryRequest,
+    exercises: &[Exercise],
+) -> Result<Option<LabFault>, LabFault> {
+    let mut left_out = LeftOut::none(alloc);
+    left_out.add(alloc, files, request.exercises, LookedFor::Exercises)?;
+    for exercise in exercises.iter() {
+        let wrong = exercise.file(alloc, "wrong")?;
+        left_out.add(alloc, files, &wrong, LookedFor::Ending(".asm"))?;
+    }
+    left_out.add(alloc, files, request.examples, LookedFor::Ending(".asm"))?;
+    left_out.add(
+        alloc,
+        files,
+        request.examples,
+        LookedFor::Ending(".schedule"),
+    )?;
+    Ok(left_out.fault())
 }
 
 /// Whether one of these cards has this name.
@@ -112,7 +140,7 @@ fn read_levels<F: Files, R: Read>(
     let slash = slash_after(exercises);
     let path = format!(in alloc; "{exercises}{slash}levels")?;
     let bytes = match inputs.files.symlink_metadata(&path) {
-        Ok(_) => inputs.read(alloc, &path)?,
+        Ok(_) => read_part(alloc, inputs, &path)?,
         Err(_) => Vec::new(alloc),
     };
     Ok(LevelFile { path, bytes })
