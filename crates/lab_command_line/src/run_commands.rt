@@ -23,8 +23,11 @@ pub(crate) const SCHEDULE_ARGUMENTS: [Argument; 4] = [
     STEPS,
 ];
 
+/// What `--why` of `view` does not go with: it says itself which steps are shown, and how.
+const NOT_WITH_WHY: [&str; 6] = ["from", "only", "word", "columns", "all", "json"];
+
 /// Of `view`.
-pub(crate) const VIEW_ARGUMENTS: [Argument; 14] = [
+pub(crate) const VIEW_ARGUMENTS: [Argument; 15] = [
     PROGRAM,
     SCHEDULE,
     GIVEN,
@@ -50,6 +53,11 @@ pub(crate) const VIEW_ARGUMENTS: [Argument; 14] = [
         "word",
         "shows the steps that use the word at this byte address, or of this name",
         Form::Option("A", ValueKind::Text, Presence::Free),
+    ),
+    Argument(
+        "why",
+        "shows the steps that the value of this register or word comes from, as 2.0.r6 or [8]",
+        Form::Option("WHERE", ValueKind::Text, Presence::Without(&NOT_WITH_WHY)),
     ),
     Argument("columns", "a column a stream", Form::Flag(&["json"])),
     Argument(
@@ -314,8 +322,10 @@ pub(crate) fn view_of<'a>(found: &ArgMatches<'a>) -> ViewRequest<'a> {
         to: count(found, "to", usize::MAX),
         only: text(found, "only"),
         word: text(found, "word"),
+        why: text(found, "why"),
         columns: found.get_flag("columns"),
         are_all: found.get_flag("all"),
+        round: None,
         shown: shown_of(found),
     }
 }
@@ -365,6 +375,7 @@ fn drawn_of<'a>(found: &ArgMatches<'a>) -> PageRequest<'a> {
         other: None,
         from: 1,
         to: usize::MAX,
+        round: None,
         title: text(found, "title"),
         out: word(found, "out"),
     }

@@ -154,11 +154,10 @@ impl<'a, 'i, 't, const S: usize> DebugRepl<'a, 'i, 't, S> {
         }
     }
 
-    /// Adds why a stream waits, and which step left the word so.
+    /// Adds why a stream waits, and which step left the word so; of a register or a word why it holds what it holds.
     pub(crate) fn why(&self, rest: &str, out: &mut TextWriter) -> Result<(), LabFault> {
         let Some(step) = self.stream_of(rest) else {
-            out.put("why takes a stream, as 2.0\n");
-            return Ok(());
+            return self.put_reason(rest, out);
         };
         let Some(wait) = self.named.wait(step.p, step.s) else {
             out.put_stream(step.p, step.s);

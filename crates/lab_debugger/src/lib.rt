@@ -5,6 +5,7 @@ mod debug_aliases;
 mod debug_ends;
 mod debug_lines;
 mod debug_points;
+mod debug_reasons;
 mod debug_registers;
 mod debug_repl;
 mod debug_shows;

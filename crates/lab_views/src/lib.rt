@@ -3,6 +3,7 @@
 
 mod comparing;
 mod folding;
+mod reasons;
 mod run_status;
 mod viewing;
 

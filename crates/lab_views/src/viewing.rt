@@ -1,6 +1,7 @@
 //! The command `view`.
 
 use crate::folding::StepLines;
+use crate::reasons::view_reason;
 use crate::run_status::status_of_run;
 use asked_programs::read_asked_program;
 use command_parts::{
@@ -38,6 +39,9 @@ pub fn view<F: Files, R: Read>(
     inputs: &mut Inputs<'_, F, R>,
     request: &ViewRequest,
 ) -> Result<CommandAnswer, LabFault> {
+    if let Some(text) = request.why {
+        return view_reason(alloc, inputs, request, text);
+    }
     let stream = match request.only {
         Some(name) => Some(stream_named(alloc, name)?),
         None => None,
