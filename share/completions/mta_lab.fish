@@ -47,6 +47,7 @@ complete -c mta_lab -n '__fish_seen_subcommand_from view' -l only -x -d 'shows o
 complete -c mta_lab -n '__fish_seen_subcommand_from view' -l word -x -d 'shows the steps that use the word at this byte address, or of this name'
 complete -c mta_lab -n '__fish_seen_subcommand_from view' -l columns -f -d 'a column a stream'
 complete -c mta_lab -n '__fish_seen_subcommand_from view' -l all -f -d 'a line for each step, also where a loop repeats'
+complete -c mta_lab -n '__fish_seen_subcommand_from view page' -l round -x -d 'marks the last N steps as a round: they come back to the same state'
 complete -c mta_lab -n '__fish_seen_subcommand_from view compare survey explore grade' -l hex -f -d 'prints numbers in hexadecimal digits'
 complete -c mta_lab -n '__fish_seen_subcommand_from compare' -l seeds -f -d 'ONE and OTHER are seeds of random schedules'
 complete -c mta_lab -n '__fish_seen_subcommand_from survey grade' -l seeds -x -d 'how many random schedules, 1 to 100000000 [200]'

@@ -24,7 +24,7 @@ pub(crate) const SCHEDULE_ARGUMENTS: [Argument; 4] = [
 ];
 
 /// Of `view`.
-pub(crate) const VIEW_ARGUMENTS: [Argument; 14] = [
+pub(crate) const VIEW_ARGUMENTS: [Argument; 15] = [
     PROGRAM,
     SCHEDULE,
     GIVEN,
@@ -56,6 +56,11 @@ pub(crate) const VIEW_ARGUMENTS: [Argument; 14] = [
         "all",
         "a line for each step, also where a loop repeats",
         Form::Flag(&["json"]),
+    ),
+    Argument(
+        "round",
+        help::ROUND,
+        Form::Option("N", ValueKind::Number(1, MOST_STEPS), Presence::Free),
     ),
     HEX_IN_TEXT,
     JSON,
@@ -100,7 +105,7 @@ pub(crate) const COMPARE_ARGUMENTS: [Argument; 8] = [
 ];
 
 /// Of `page`.
-pub(crate) const PAGE_ARGUMENTS: [Argument; 11] = [
+pub(crate) const PAGE_ARGUMENTS: [Argument; 12] = [
     PROGRAM,
     Argument(
         "SCHEDULE",
@@ -126,6 +131,15 @@ pub(crate) const PAGE_ARGUMENTS: [Argument; 11] = [
     ),
     SEED,
     STEPS,
+    Argument(
+        "round",
+        help::ROUND,
+        Form::Option(
+            "N",
+            ValueKind::Number(1, MOST_STEPS),
+            Presence::Without(&["OTHER"]),
+        ),
+    ),
     TITLE,
     Argument(
         "out",
@@ -314,8 +328,10 @@ pub(crate) fn view_of<'a>(found: &ArgMatches<'a>) -> ViewRequest<'a> {
         to: count(found, "to", usize::MAX),
         only: text(found, "only"),
         word: text(found, "word"),
+        why: None,
         columns: found.get_flag("columns"),
         are_all: found.get_flag("all"),
+        round: found.get_one::<usize>("round"),
         shown: shown_of(found),
     }
 }
@@ -337,7 +353,10 @@ fn run_of<'a>(found: &ArgMatches<'a>) -> RunChoice<'a> {
 
 /// What `page` is asked.
 pub(crate) fn page_of<'a>(found: &ArgMatches<'a>) -> PageRequest<'a> {
-    let shown = drawn_of(found);
+    let shown = PageRequest {
+        round: found.get_one::<usize>("round"),
+        ..drawn_of(found)
+    };
     if !found.contains_id("OTHER") {
         return shown;
     }
@@ -365,6 +384,7 @@ fn drawn_of<'a>(found: &ArgMatches<'a>) -> PageRequest<'a> {
         other: None,
         from: 1,
         to: usize::MAX,
+        round: None,
         title: text(found, "title"),
         out: word(found, "out"),
     }

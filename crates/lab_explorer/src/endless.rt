@@ -16,6 +16,8 @@ pub(crate) struct WaitingProgram<'a, 't> {
     pub image: &'a Image,
     /// How many steps were given that all schedules begin with.
     pub begin: usize,
+    /// The folder in which the schedules are kept, if they are.
+    pub keep: Option<&'a str>,
     /// Who can.
     pub waits: &'a EndlessWaits,
 }

@@ -50,6 +50,7 @@ pub(crate) fn answer_of(
             names: notation.names,
             image,
             begin: found.begin(),
+            keep: shown.keep,
             waits,
         };
         waiting.push(alloc, &mut output, is_json)?;

@@ -1,6 +1,7 @@
 //! Who can wait forever, in words.
 
 use crate::endless::WaitingProgram;
+use crate::waiting_files::waiting_path;
 use endless_waits::starving::Starving;
 use endless_waits::waits_of_streams::Wait;
 use endless_waits::{EndlessWaits, SeenRound, StreamSteps, seen_round};
@@ -38,6 +39,7 @@ pub(crate) fn push_waits_lines(
                 let round = seen_round(alloc, waiting.image, starving)?;
                 put_starving(&mut out, waiting.names, starving, &round);
                 put_schedules(&mut out, starving)?;
+                put_kept(&mut out, waiting.keep, starving)?;
             }
             put_undecided(&mut out, &answer.undecided);
         }
@@ -131,6 +133,24 @@ fn put_schedules(out: &mut TextWriter, starving: &Starving) -> Result<(), AllocE
     }
     out.put("again and again ");
     put_turns(out, &starving.round)?;
+    out.put("\n");
+    Ok(())
+}
+
+/// Adds the file that has the round twice, if it is kept, and what marks the round in it.
+fn put_kept(
+    out: &mut TextWriter,
+    keep: Option<&str>,
+    starving: &Starving,
+) -> Result<(), AllocError> {
+    let Some(folder) = keep else {
+        return Ok(());
+    };
+    let path = waiting_path(out.alloc(), folder, starving.stream)?;
+    out.put(INDENT);
+    out.put_plain(&path);
+    out.put(": view and page mark the round with --round ");
+    out.put_number(starving.round.len() as u64);
     out.put("\n");
     Ok(())
 }

@@ -48,10 +48,14 @@ pub struct ViewRequest<'a> {
     pub only: Option<&'a str>,
     /// The only word whose steps are shown, as it was given: its byte address or its name.
     pub word: Option<&'a str>,
+    /// The register or word of which the steps alone are shown that its value comes from, as it was given; None: as above.
+    pub why: Option<&'a str>,
     /// A column a stream.
     pub columns: bool,
     /// Whether each step has a line, also where a loop repeats.
     pub are_all: bool,
+    /// How many of the last steps are shown as a round, at least 1; None: none is marked.
+    pub round: Option<usize>,
     /// How it is printed.
     pub shown: Shown,
 }
@@ -71,6 +75,8 @@ pub struct PageRequest<'a> {
     pub from: usize,
     /// The last step that a picture shows.
     pub to: usize,
+    /// How many of the last steps a page of one run shows as a round, at least 1; None: none is marked.
+    pub round: Option<usize>,
     /// What the program is called; None where its file's name says it.
     pub title: Option<&'a str>,
     /// The file that is written.

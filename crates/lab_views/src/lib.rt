@@ -3,7 +3,9 @@
 
 mod comparing;
 mod folding;
+mod round_marks;
 mod run_status;
+mod shown_steps;
 mod viewing;
 
 pub use comparing::compare;
