@@ -102,6 +102,9 @@ class Case:
             yield f"not decided: {said}"
         if set(shown) != self.wanted or said["nobody"] == bool(self.wanted):
             yield f"{sorted(shown)} can wait forever, and by the search {sorted(self.wanted)}"
+        running = {name for it in objects if it["object"] == "search_end" for name in it["running"]}
+        if set(said["going"]) != running - self.wanted or len(set(said["going"])) < len(said["going"]):
+            yield f"{said['going']} go on in every round, and not {sorted(running - self.wanted)}"
         if ended.returncode != self.status():
             yield f"status {ended.returncode}, and not {self.status()}"
         for name, it in shown.items():

@@ -42,6 +42,9 @@ pub(crate) fn push_waits_lines(
                 put_kept(&mut out, waiting.keep, starving)?;
             }
             put_undecided(&mut out, &answer.undecided);
+            if !waiting.waits.is_nobody() {
+                put_going(&mut out, waiting.going);
+            }
         }
     }
     out.give_back(text)
@@ -54,6 +57,28 @@ fn put_undecided(out: &mut TextWriter, streams: &[Step]) {
         out.put_stream(stream.p, stream.s);
         out.put(" can wait forever\n");
     }
+}
+
+/// Adds the streams of endless loops that go on in every round, where some are.
+fn put_going(out: &mut TextWriter, streams: &[Step]) {
+    if streams.is_empty() {
+        return;
+    }
+    out.put("fair by words: ");
+    let mut left = streams.len();
+    for stream in streams {
+        out.put_stream(stream.p, stream.s);
+        left = left.saturating_sub(1);
+        out.put(match left {
+            0 => "",
+            1 => " and ",
+            _ => ", ",
+        });
+    }
+    out.put(match streams.len() {
+        1 => " goes on in every round in which it runs\n",
+        _ => " go on in every round in which they run\n",
+    });
 }
 
 /// Adds a stream that can wait forever: where, for what, by how many steps, and what each stream does in the round.
