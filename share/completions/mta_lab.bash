@@ -82,7 +82,8 @@ _mta_lab_value() {
         .chain E1 NotAscii E2 Unknown E3 Operand E4 Range E5 TwoWriters E6 LabelTwice E7 LabelMissing E8 Directive
         E9 Limit E10 NoMemory 101 102 103 104 105 106 107 108 109 110 111 112 113 114 115 116 LOAD STORE FADD TAGGET
         TAGSET PURGE 1 PROGRAM 2 ILLEGAL 3 TRAP3 4 TRAP4 POINTER 5 ALIGN 6 RANGE 7 TRAP0 8 TRAP1 9 FORWARD 10 TRAP10
-        DONE BLOCKED TRAPPED STOPPED SKIPPED deadlock starvation starving starve fairness fair livelock spinning'
+        DONE BLOCKED TRAPPED STOPPED SKIPPED deadlock starvation starving starve fairness fair response overtaking
+        overtake overtakes livelock spinning'
       ;;
   esac
 }
