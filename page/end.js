@@ -124,7 +124,7 @@ function judgedItems() {
 
 function endItems() {
   const { waiting, stopped } = run.end;
-  const items = judgedItems();
+  const items = [...judgedItems(), ...roundItems()];
   const found = run.findings.slice(0, FINDINGS_SHOWN).map((finding) => findingText(finding, false));
   items.push(...found);
   const more = run.findings.length - FINDINGS_SHOWN;

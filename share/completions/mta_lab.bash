@@ -7,7 +7,8 @@ _mta_lab_options() {
     fmt) echo '--check --color --help' ;;
     schedule) echo '--seed --steps --color --help' ;;
     view)
-      echo '--given --fair --seed --steps --from --to --only --word --columns --all --hex --json --color --help'
+      echo '--given --fair --seed --steps --from --to --only --word --columns --all --round --hex --json --color
+        --help'
       ;;
     debug) echo '--given --fair --seed --steps --color --help' ;;
     dap) echo '--color --help' ;;
@@ -27,7 +28,7 @@ _mta_lab_options() {
         --color --help'
       ;;
     exercise) echo '--hint --page --play --reset --watch --folder --color --help' ;;
-    page) echo '--given --seeds --fair --rounds --seed --steps --title --out --color --help' ;;
+    page) echo '--given --seeds --fair --rounds --seed --steps --round --title --out --color --help' ;;
     picture) echo '--given --fair --rounds --seed --steps --from --to --title --out --color --help' ;;
     play) echo '--given --expect --from --states --title --goal --out --color --help' ;;
     gallery) echo '--exercises --examples --color --help' ;;
@@ -51,8 +52,8 @@ _mta_lab_value() {
       'page 1' | 'picture 1' | 'play 1') echo 'files .asm .image' ;;
     *' --color') echo 'words auto always never' ;;
     *' --seed' | *' --steps' | 'view --from' | 'survey --from' | 'picture --from' | *' --to' | *' --only' | \
-      *' --word' | 'survey --seeds' | 'grade --seeds' | *' --states' | *' --seconds' | *' --memory' | *' --jobs' | \
-      *' --part' | *' --hint' | *' --title' | 'word '[0-9]* | 'new 1') echo 'text' ;;
+      *' --word' | *' --round' | 'survey --seeds' | 'grade --seeds' | *' --states' | *' --seconds' | *' --memory' | \
+      *' --jobs' | *' --part' | *' --hint' | *' --title' | 'word '[0-9]* | 'new 1') echo 'text' ;;
     *' --given') echo 'files .data' ;;
     'explore --from' | 'play --from' | 'view 2' | 'debug 2' | 'compare 2' | 'compare 3' | 'page 2' | 'page 3' | \
       'picture 2') echo 'files .schedule' ;;
@@ -81,7 +82,8 @@ _mta_lab_value() {
         .chain E1 NotAscii E2 Unknown E3 Operand E4 Range E5 TwoWriters E6 LabelTwice E7 LabelMissing E8 Directive
         E9 Limit E10 NoMemory 101 102 103 104 105 106 107 108 109 110 111 112 113 114 115 116 LOAD STORE FADD TAGGET
         TAGSET PURGE 1 PROGRAM 2 ILLEGAL 3 TRAP3 4 TRAP4 POINTER 5 ALIGN 6 RANGE 7 TRAP0 8 TRAP1 9 FORWARD 10 TRAP10
-        DONE BLOCKED TRAPPED STOPPED SKIPPED deadlock starvation starving starve fairness fair livelock spinning'
+        DONE BLOCKED TRAPPED STOPPED SKIPPED deadlock starvation starving starve fairness fair response overtaking
+        overtake overtakes livelock spinning'
       ;;
   esac
 }

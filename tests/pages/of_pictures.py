@@ -20,6 +20,7 @@ WIDEST = """
   const strips = [...document.querySelectorAll('#paper > svg')];
   return Math.max(...strips.map((one) => one.getBoundingClientRect().right));
 """
+ARROWS = "return drawRuler(0, 100000, 20, false).querySelectorAll('g.round').length"
 EXAMPLES = ("lock.lost_update", "philosophers.deadlock", "bounded_buffer.ends", "readers_writer.torn_read")
 
 
@@ -71,7 +72,24 @@ def printed(page, name):
     page.quiet(f"{name}, printed")
 
 
+def marked(page, name):
+    """A round that is marked: an arrow each time that the run takes it, the saved picture's legend, and a line of the end."""
+    run = runs.sample(name)
+    page.open(name, runs.page(run))
+    tally.same(f"{name}: no round", [page.script(ARROWS), "again and again" in page.text("#end")], [0, False])
+    count = len(run["steps"])
+    run["round"] = {"after": count - 4, "steps": 2, "times": 2}
+    page.open(f"{name}, a round", runs.page(run))
+    said = (f"From step {count - 3} on again and again: 2 steps. "
+            f"After step {count} the state is the same as after step {count - 4}.")
+    tally.same(f"{name}: an arrow each time", page.script(ARROWS), 2)
+    tally.check(f"{name}: the round in words", said in page.text("#end"), page.text("#end"))
+    tally.check(f"{name}: the legend has it", "comes back to the same state" in page.text("#legend"), page.text("#legend"))
+    page.quiet(f"{name}, a round")
+
+
 def part(page):
+    marked(page, "philosophers.deadlock")
     for name in EXAMPLES:
         saved(page, name)
     for name in ("philosophers.deadlock", "bounded_buffer.ends"):

@@ -32,6 +32,8 @@ KINDS = {
     "explore lock.asm --states 50 --json": "search",
     "explore grading/submissions/racing.asm --expect expected --json": "search search_end*",
     "explore spins.asm --json": "search search_end",
+    "view spins.asm --steps 6 --round 2 --json": "run step* round end",
+    "explore spins.asm --waiting --json": "search search_end waiting starving",
 }
 
 

@@ -1,5 +1,6 @@
 """Who can wait forever: the programs of tests/cases/lab_waiting, beside what textbooks say of them. Each schedule that is shown,
-with its round twice, is run by mta_sim: it comes back, and the stream is blocked at each of its steps after the schedule."""
+with its round twice, is run by mta_sim: it comes back, and the stream is blocked at each of its steps after the schedule. `view`
+and `page` mark the round."""
 
 import json
 import os
@@ -10,6 +11,7 @@ import checks
 import table
 import tool
 from of_lab import lab
+from of_pages import run_in, written
 
 FOLDER = os.path.join(table.CASES, "lab_waiting")
 # a line of a trace: its number, the stream, and what became of the step
@@ -44,6 +46,15 @@ def faults_of(source, folder, kept, it):
     own = [line for line in lines[it["steps"]:] if line and b"%s.%s" % line.groups()[:2] == name.encode()]
     if not own or any(line[3] != b"BLOCKED" for line in own):
         yield f"{name}: it is not blocked at each step"
+    size = sum(count for _, _, count in it["round"])
+    words = (source, os.path.join(kept, f"waiting_{name}.schedule"), "--round", str(size))
+    wanted = {"after": it["steps"], "steps": size, "times": 2}
+    viewed = [json.loads(line) for line in lab("view", *words, "--json").out.splitlines()]
+    if [one for one in viewed if one["object"] == "round"] != [{"object": "round", "version": 2, **wanted}]:
+        yield f"{name}: view does not mark the round"
+    _, page, _ = written("page", *words)
+    if not page or run_in(page).get("round") != wanted:
+        yield f"{name}: page does not mark the round"
 
 
 def world_of(trace):

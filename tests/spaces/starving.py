@@ -2,7 +2,8 @@
 """Random programs with loops: who can wait forever by `mta_lab explore --waiting`, beside a plain search of rounds by a
 machine of the tests' own (lassos.py). Each stream that is shown has to be one that the search finds, and each that the search
 finds has to be shown. Each schedule and round that is shown is replayed: the round has to come back, to be fair, and to
-leave the stream waiting, and no schedule to its world may be shorter. Each is run by `mta_sim` too, the round once and twice. A
+leave the stream waiting, and no schedule to its world may be shorter. Each is run by `mta_sim` too, the round once and twice. And
+`view --round` has to mark as a round just those last steps of a kept schedule that are one by this machine. A
 difference is printed with its seed and its program. Needs Python 3.
 
   starving [--programs N] [--first SEED] [--jobs N] [--program PATH] [--machine PATH]
@@ -36,7 +37,8 @@ import built
 # after so many seconds a call has failed; how many differences are printed; how many worlds a program has, and how many
 # programs a seed tries to find one
 PATIENCE, SHOWN, LEAST, MOST, TRIES = 60, 20, 10, 150, 400
-# the exit status of each kind of end
+# the exit status of a refused call, and of each kind of end
+REFUSED = 1
 OF_ENDS = {"finished": search.DONE, "stopped": search.UNEXPECTED, "deadlock": search.DEADLOCK}
 
 
@@ -100,11 +102,15 @@ class Case:
             yield f"not decided: {said}"
         if set(shown) != self.wanted or said["nobody"] == bool(self.wanted):
             yield f"{sorted(shown)} can wait forever, and by the search {sorted(self.wanted)}"
+        running = {name for it in objects if it["object"] == "search_end" for name in it["running"]}
+        if set(said["going"]) != running - self.wanted or len(set(said["going"])) < len(said["going"]):
+            yield f"{said['going']} go on in every round, and not {sorted(running - self.wanted)}"
         if ended.returncode != self.status():
             yield f"status {ended.returncode}, and not {self.status()}"
         for name, it in shown.items():
             yield from self.faults(name, it)
             yield from self.run_twice(asked, folder, path, name)
+            yield from self.not_as_marked(asked, folder, path, it)
 
     def faults(self, name, it):
         """What is not so of a stream that is shown."""
@@ -126,6 +132,34 @@ class Case:
             world, outcome = machine.step(self.made.program, world, *who)
             counts[name_of(who)] = counts.get(name_of(who), 0) + (outcome != "blocked")
         return list(counts.items())
+
+    def not_as_marked(self, asked, folder, path, it):
+        """What `view --round` says of the last steps of a kept schedule that is not so."""
+        kept = os.path.join(folder, "kept", f"waiting_{it['stream']}.schedule")
+        round_ = steps_of(it["round"])
+        schedule, size = steps_of(it["schedule"]) + round_ * 2, len(round_)
+        for count in sorted({1, 2, size - 1, size, size + 1, 2 * size, len(schedule), len(schedule) + 1} - {0}):
+            ended = call(asked.program, "view", "--json", "--round", str(count), path, kept)
+            objects = [json.loads(line) for line in ended.stdout.splitlines()]
+            marked = [(it["after"], it["steps"], it["times"]) for it in objects if it["object"] == "round"]
+            wanted = self.round_at_end(schedule, count)
+            if marked != wanted or (ended.returncode == REFUSED) == bool(wanted):
+                yield f"{it['stream']}: view --round {count}: {marked}, status {ended.returncode}, and not {wanted}"
+
+    def round_at_end(self, schedule, count):
+        """After how many steps the round begins that the last so many steps are, how many it has, and how often it is taken;
+        nothing if they are none."""
+        world, worlds, outcomes = machine.start(self.made.program), [], []
+        for who in schedule:
+            worlds.append(world)
+            world, outcome = machine.step(self.made.program, world, *who)
+            outcomes.append(outcome)
+        begin, times = len(schedule) - count, 1
+        if begin < 0 or worlds[begin] != world or "skipped" in outcomes[begin:]:
+            return []
+        while begin >= count and schedule[begin - count:begin] == schedule[-count:] and worlds[begin - count] == world:
+            begin, times = begin - count, times + 1
+        return [(begin, count, times)]
 
     def run_twice(self, asked, folder, path, name):
         """Whether a run of mta_sim by the kept schedules ends in the world in which the round began."""

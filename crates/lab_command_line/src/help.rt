@@ -311,6 +311,9 @@ pub(crate) const HEX: &str = "prints numbers in hexadecimal digits";
 
 pub(crate) const EXPECT: &str = "what each end has to be: word ADDRESS VALUE [full|empty], ..";
 
+pub(crate) const ROUND: &str =
+    "marks the last N steps as a round: they come back to the same state";
+
 pub(crate) const GIVEN: &str =
     "the words of a case, .data and .fill lines, in place of the program's own";
 

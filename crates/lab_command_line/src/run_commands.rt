@@ -24,10 +24,12 @@ pub(crate) const SCHEDULE_ARGUMENTS: [Argument; 4] = [
 ];
 
 /// What `--why` of `view` does not go with: it says itself which steps are shown, and how.
-const NOT_WITH_WHY: [&str; 6] = ["from", "only", "word", "columns", "all", "json"];
+const NOT_WITH_WHY: [&str; 7] = [
+    "from", "only", "word", "columns", "all", "round", "json",
+];
 
 /// Of `view`.
-pub(crate) const VIEW_ARGUMENTS: [Argument; 15] = [
+pub(crate) const VIEW_ARGUMENTS: [Argument; 16] = [
     PROGRAM,
     SCHEDULE,
     GIVEN,
@@ -64,6 +66,11 @@ pub(crate) const VIEW_ARGUMENTS: [Argument; 15] = [
         "all",
         "a line for each step, also where a loop repeats",
         Form::Flag(&["json"]),
+    ),
+    Argument(
+        "round",
+        help::ROUND,
+        Form::Option("N", ValueKind::Number(1, MOST_STEPS), Presence::Free),
     ),
     HEX_IN_TEXT,
     JSON,
@@ -108,7 +115,7 @@ pub(crate) const COMPARE_ARGUMENTS: [Argument; 8] = [
 ];
 
 /// Of `page`.
-pub(crate) const PAGE_ARGUMENTS: [Argument; 11] = [
+pub(crate) const PAGE_ARGUMENTS: [Argument; 12] = [
     PROGRAM,
     Argument(
         "SCHEDULE",
@@ -134,6 +141,15 @@ pub(crate) const PAGE_ARGUMENTS: [Argument; 11] = [
     ),
     SEED,
     STEPS,
+    Argument(
+        "round",
+        help::ROUND,
+        Form::Option(
+            "N",
+            ValueKind::Number(1, MOST_STEPS),
+            Presence::Without(&["OTHER"]),
+        ),
+    ),
     TITLE,
     Argument(
         "out",
@@ -325,7 +341,7 @@ pub(crate) fn view_of<'a>(found: &ArgMatches<'a>) -> ViewRequest<'a> {
         why: text(found, "why"),
         columns: found.get_flag("columns"),
         are_all: found.get_flag("all"),
-        round: None,
+        round: found.get_one::<usize>("round"),
         shown: shown_of(found),
     }
 }
@@ -347,7 +363,10 @@ fn run_of<'a>(found: &ArgMatches<'a>) -> RunChoice<'a> {
 
 /// What `page` is asked.
 pub(crate) fn page_of<'a>(found: &ArgMatches<'a>) -> PageRequest<'a> {
-    let shown = drawn_of(found);
+    let shown = PageRequest {
+        round: found.get_one::<usize>("round"),
+        ..drawn_of(found)
+    };
     if !found.contains_id("OTHER") {
         return shown;
     }

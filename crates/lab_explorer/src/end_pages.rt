@@ -27,6 +27,8 @@ pub(crate) struct FoundProgram<'a> {
     pub found: &'a Explored<'a>,
     /// Who can wait forever; None if that was not asked.
     pub waits: Option<&'a EndlessWaits>,
+    /// The folder for the schedules, if they are kept.
+    pub keep: Option<&'a str>,
 }
 
 impl FoundProgram<'_> {

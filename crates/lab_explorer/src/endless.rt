@@ -3,8 +3,11 @@
 use crate::waiting_objects::push_waits_objects;
 use crate::waiting_text::push_waits_lines;
 use endless_waits::EndlessWaits;
+use endless_waits::starving::StarvingStreams;
 use image_file::Image;
 use lab_texts::ProgramNames;
+use processor::Step;
+use search_texts::searches::Explored;
 use std::alloc::{AllocError, Global};
 
 /// A program of which it was asked who can wait forever.
@@ -16,8 +19,12 @@ pub(crate) struct WaitingProgram<'a, 't> {
     pub image: &'a Image,
     /// How many steps were given that all schedules begin with.
     pub begin: usize,
+    /// The folder in which the schedules are kept, if they are.
+    pub keep: Option<&'a str>,
     /// Who can.
     pub waits: &'a EndlessWaits,
+    /// The streams of endless loops that can't, and of which that was decided.
+    pub going: &'a [Step],
 }
 
 impl WaitingProgram<'_, '_> {
@@ -34,4 +41,33 @@ impl WaitingProgram<'_, '_> {
             push_waits_lines(alloc, out, self)
         }
     }
+}
+
+/// The streams that can go on in an endless loop, and of which it was decided that they can't wait forever: each of them
+/// completes a step in every round that is fair by words, and in which it runs. They come in the order of processor and
+/// stream; none if it was not asked.
+pub(crate) fn going_streams(
+    alloc: Global,
+    found: &Explored<'_>,
+    waits: &EndlessWaits,
+) -> Result<Vec<Step>, AllocError> {
+    let mut going: Vec<Step> = Vec::new(alloc);
+    let EndlessWaits::Answered(answer) = waits else {
+        return Ok(going);
+    };
+    for end in found.ends.iter() {
+        for stream in &end.running(alloc)? {
+            if !going.contains(stream) && is_never(answer, *stream) {
+                going.push(*stream)?;
+            }
+        }
+    }
+    going.sort_by_key(|stream: &Step| (stream.p, stream.s))?;
+    Ok(going)
+}
+
+/// Whether a stream is neither shown to wait forever nor left undecided.
+fn is_never(answer: &StarvingStreams, stream: Step) -> bool {
+    !answer.undecided.contains(&stream)
+        && !answer.starving.iter().any(|shown| shown.stream == stream)
 }

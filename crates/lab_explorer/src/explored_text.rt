@@ -1,7 +1,7 @@
 //! What is said of a search: its head and its ends, in words or as objects.
 
 use crate::end_pages::FoundProgram;
-use crate::endless::WaitingProgram;
+use crate::endless::{WaitingProgram, going_streams};
 use crate::explored_objects::push_objects;
 use command_parts::CommandAnswer;
 use end_kinds::{EndKind, Status};
@@ -46,11 +46,14 @@ pub(crate) fn answer_of(
     let mut status = found.status().worse(work_status(required));
     if let Some(waits) = shown.waits {
         status = status.worse(waits.status());
+        let going = going_streams(alloc, found, waits)?;
         let waiting = WaitingProgram {
             names: notation.names,
             image,
             begin: found.begin(),
+            keep: shown.keep,
             waits,
+            going: &going,
         };
         waiting.push(alloc, &mut output, is_json)?;
     }

@@ -80,6 +80,7 @@ fn show_ends<C: Clock, F: Files, R: Read, E: Write>(
         required: read.required,
         found: &found,
         waits: waits.as_ref(),
+        keep: request.keep,
     };
     let mut answer = answer_of(alloc, request.shown.json, notation, shown)?;
     let mut written = WrittenFiles::new(alloc);

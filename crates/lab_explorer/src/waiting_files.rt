@@ -30,11 +30,21 @@ pub(crate) fn keep_waits<F: Files, R: Read>(
         let stem = format!(in alloc; "{folder}/waiting_{p}.{s}_stem.schedule")?;
         let text = write_schedule(alloc, &starving.stem)?;
         written.keep(inputs.write_derived(alloc, &stem, text.as_bytes()))?;
-        let whole = format!(in alloc; "{folder}/waiting_{p}.{s}.schedule")?;
+        let whole = waiting_path(alloc, folder, starving.stream)?;
         let text = write_schedule(alloc, &with_rounds(alloc, starving)?)?;
         written.keep(inputs.write_derived(alloc, &whole, text.as_bytes()))?;
     }
     Ok(())
+}
+
+/// The file with the schedule that leads to the round of a stream, and with the round twice.
+pub(crate) fn waiting_path(
+    alloc: Global,
+    folder: &str,
+    stream: Step,
+) -> Result<String, AllocError> {
+    let Step { p, s } = stream;
+    format!(in alloc; "{folder}/waiting_{p}.{s}.schedule")
 }
 
 /// The schedule that leads to the round of a stream, and the round twice.

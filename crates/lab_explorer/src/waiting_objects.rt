@@ -16,7 +16,7 @@ pub(crate) fn push_waits_objects(
     out: &mut String,
     waiting: WaitingProgram<'_, '_>,
 ) -> Result<(), AllocError> {
-    push_object(alloc, out, &waits_value(alloc, waiting.waits)?)?;
+    push_object(alloc, out, &waits_value(alloc, waiting)?)?;
     if let EndlessWaits::Answered(answer) = waiting.waits {
         for starving in &answer.starving {
             let round = seen_round(alloc, waiting.image, starving)?;
@@ -27,11 +27,13 @@ pub(crate) fn push_waits_objects(
     Ok(())
 }
 
-/// Whether it was asked who can wait forever, why not, and of which streams it was not decided.
-fn waits_value(alloc: Global, waits: &EndlessWaits) -> Result<Value, AllocError> {
+/// Whether it was asked who can wait forever, why not, of which streams it was not decided, and who goes on in every round.
+fn waits_value(alloc: Global, waiting: WaitingProgram<'_, '_>) -> Result<Value, AllocError> {
+    let waits = waiting.waits;
     let mut object = Object::of_kind(alloc, "waiting");
     object.put_text("fairness", "words");
     object.put("nobody", Ok(Value::from(waits.is_nobody())));
+    object.put("going", streams_value(alloc, waiting.going));
     match waits {
         EndlessWaits::Unanswered(reason) => {
             object.put("decided", Ok(Value::from(false)));

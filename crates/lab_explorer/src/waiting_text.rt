@@ -1,6 +1,7 @@
 //! Who can wait forever, in words.
 
 use crate::endless::WaitingProgram;
+use crate::waiting_files::waiting_path;
 use endless_waits::starving::Starving;
 use endless_waits::waits_of_streams::Wait;
 use endless_waits::{EndlessWaits, SeenRound, StreamSteps, seen_round};
@@ -38,8 +39,12 @@ pub(crate) fn push_waits_lines(
                 let round = seen_round(alloc, waiting.image, starving)?;
                 put_starving(&mut out, waiting.names, starving, &round);
                 put_schedules(&mut out, starving)?;
+                put_kept(&mut out, waiting.keep, starving)?;
             }
             put_undecided(&mut out, &answer.undecided);
+            if !waiting.waits.is_nobody() {
+                put_going(&mut out, waiting.going);
+            }
         }
     }
     out.give_back(text)
@@ -52,6 +57,28 @@ fn put_undecided(out: &mut TextWriter, streams: &[Step]) {
         out.put_stream(stream.p, stream.s);
         out.put(" can wait forever\n");
     }
+}
+
+/// Adds the streams of endless loops that go on in every round, where some are.
+fn put_going(out: &mut TextWriter, streams: &[Step]) {
+    if streams.is_empty() {
+        return;
+    }
+    out.put("fair by words: ");
+    let mut left = streams.len();
+    for stream in streams {
+        out.put_stream(stream.p, stream.s);
+        left = left.saturating_sub(1);
+        out.put(match left {
+            0 => "",
+            1 => " and ",
+            _ => ", ",
+        });
+    }
+    out.put(match streams.len() {
+        1 => " goes on in every round in which it runs\n",
+        _ => " go on in every round in which they run\n",
+    });
 }
 
 /// Adds a stream that can wait forever: where, for what, by how many steps, and what each stream does in the round.
@@ -131,6 +158,24 @@ fn put_schedules(out: &mut TextWriter, starving: &Starving) -> Result<(), AllocE
     }
     out.put("again and again ");
     put_turns(out, &starving.round)?;
+    out.put("\n");
+    Ok(())
+}
+
+/// Adds the file that has the round twice, if it is kept, and what marks the round in it.
+fn put_kept(
+    out: &mut TextWriter,
+    keep: Option<&str>,
+    starving: &Starving,
+) -> Result<(), AllocError> {
+    let Some(folder) = keep else {
+        return Ok(());
+    };
+    let path = waiting_path(out.alloc(), folder, starving.stream)?;
+    out.put(INDENT);
+    out.put_plain(&path);
+    out.put(": view and page mark the round with --round ");
+    out.put_number(starving.round.len() as u64);
     out.put("\n");
     Ok(())
 }

@@ -1,13 +1,15 @@
 //! The command `page`.
 
 use crate::answers::page_answer;
-use asked_programs::read_asked_program;
+use asked_programs::{EndRound, read_asked_program, round_asked};
 use expectation_messages::parts::{CommandAnswer, Inputs, LabFault, Program, steps_of};
 use lab_requests::{Maker, PageRequest, RunChoice};
+use lab_texts::{Notation, NumberStyle, ProgramNames};
 use plain_text::{file_name, stem_of};
 use processor::Step;
 use replay_page::{
-    MOST_STEPS, MOST_STEPS_OF_TWO, PairNames, RunNames, RunVerdict, page_of_pair, page_of_run,
+    MOST_STEPS, MOST_STEPS_OF_TWO, MarkedRound, PairNames, RunNames, RunVerdict, page_of_pair,
+    page_of_round, page_of_run,
 };
 use std::alloc::{AllocError, Global};
 use std::io::Read;
@@ -39,12 +41,53 @@ fn page_text<F: Files, R: Read>(
         program: program_name(request),
         schedule: &schedule,
     };
+    match request.round {
+        Some(size) => round_text(alloc, names, &run, size),
+        None => Ok(run_text(alloc, names, &run)?),
+    }
+}
+
+/// The page of a run that is shown.
+fn run_text(alloc: Global, names: RunNames<'_>, run: &RunToShow) -> Result<String, AllocError> {
     let program = &run.program;
     let verdict = RunVerdict::NotJudged;
-    Ok(page_of_run(
+    page_of_run(
         alloc,
         names,
         verdict,
+        &program.text,
+        &program.image,
+        &run.steps,
+    )
+}
+
+/// The page of a run whose last steps are a round, so many of them.
+fn round_text(
+    alloc: Global,
+    names: RunNames<'_>,
+    run: &RunToShow,
+    size: usize,
+) -> Result<String, LabFault> {
+    let program = &run.program;
+    let places = ProgramNames::of(alloc, &program.text)?;
+    let notation = Notation {
+        names: &places,
+        style: NumberStyle::Decimal,
+    };
+    let EndRound {
+        begin,
+        steps,
+        times,
+    } = round_asked(alloc, program, notation, &run.steps, size)?;
+    let round = MarkedRound {
+        after: begin,
+        steps,
+        times,
+    };
+    Ok(page_of_round(
+        alloc,
+        names,
+        round,
         &program.text,
         &program.image,
         &run.steps,

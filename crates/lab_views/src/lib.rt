@@ -4,7 +4,9 @@
 mod comparing;
 mod folding;
 mod reasons;
+mod round_marks;
 mod run_status;
+mod shown_steps;
 mod viewing;
 
 pub use comparing::compare;

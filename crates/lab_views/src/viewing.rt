@@ -2,18 +2,21 @@
 
 use crate::folding::StepLines;
 use crate::reasons::view_reason;
+use crate::round_marks::{RunPart, parts_of, push_mark, push_return, round_value};
 use crate::run_status::status_of_run;
-use asked_programs::read_asked_program;
+use crate::shown_steps::{
+    Only, check_range, check_stream, is_shown, push_no_step, stream_named, word_named,
+};
+use asked_programs::{EndRound, read_asked_program, round_asked};
 use command_parts::{
     CommandAnswer, Inputs, LabFault, Program, Status, push_object, steps_of, style_of,
 };
-use image_file::Image;
 use image_machines::{by_room, loaded};
 use lab_ends::RunFindings;
 use lab_json::{RunTitle, end_value, head_value, step_value};
 use lab_requests::{RunChoice, ViewRequest};
 use lab_texts::{
-    Columns, Notation, ProgramNames, RunEnd, end_of, plural, push_differing_words, push_end,
+    Columns, Notation, ProgramNames, RunEnd, end_of, push_differing_words, push_end,
     push_lane_head, push_lane_text, push_step_head, push_step_text,
 };
 use machine::Machine;
@@ -21,17 +24,8 @@ use processor::Step;
 use std::alloc::{AllocError, Global};
 use std::io::Read;
 use std::rt::Files;
-use step_views::{Place, StepView, take_step};
+use step_views::{StepView, take_step};
 use whole_runs::run_views;
-
-/// Of which steps alone is shown; of all where nothing is asked.
-#[derive(Clone, Copy)]
-struct Only {
-    /// Those of this stream.
-    stream: Option<Step>,
-    /// Those that use the word at this byte address.
-    word: Option<u64>,
-}
 
 /// Shows a run.
 pub fn view<F: Files, R: Read>(
@@ -62,59 +56,6 @@ pub fn view<F: Files, R: Read>(
     Ok(CommandAnswer::printed(alloc, output, status))
 }
 
-/// The stream that a name such as `2.0` names.
-fn stream_named(alloc: Global, name: &str) -> Result<Step, LabFault> {
-    if let Some((p, s)) = name.split_once('.')
-        && let (Ok(p), Ok(s)) = (p.parse::<u8>(), s.parse::<u8>())
-    {
-        return Ok(Step { p, s });
-    }
-    Err(LabFault::Words(format!(in alloc;
-        "--only takes a processor and a stream, as 2.0, and not {name}"
-    )?))
-}
-
-/// Refuses steps that end before they begin.
-fn check_range(alloc: Global, request: &ViewRequest) -> Result<(), LabFault> {
-    let (from, to) = (request.from, request.to);
-    if from <= to {
-        return Ok(());
-    }
-    Err(LabFault::Words(format!(in alloc; "--from {from} is after --to {to}: no step is shown")?))
-}
-
-/// Refuses a stream that the image has not.
-fn check_stream(alloc: Global, only: Option<Step>, image: &Image) -> Result<(), LabFault> {
-    let Some(Step { p, s }) = only else {
-        return Ok(());
-    };
-    let (processors, slim) = (image.processors(), image.slim());
-    if usize::from(p) < processors && u16::from(s) < slim {
-        return Ok(());
-    }
-    let (many, each) = (plural(processors), plural(usize::from(slim)));
-    Err(LabFault::Words(format!(in alloc;
-        "--only {p}.{s}: the program has no such stream, but {processors} processor{many} of {slim} stream{each}"
-    )?))
-}
-
-/// The byte address of the word of a program that a text says, by its address or its name.
-fn word_named(alloc: Global, text: &str, program: &Program) -> Result<u64, LabFault> {
-    let names = ProgramNames::of(alloc, &program.text)?;
-    let Some(address) = names.address_of(text) else {
-        let mut words = String::from_str(alloc, "--word: ")?;
-        names.push_no_address(alloc, &mut words, text)?;
-        return Err(LabFault::Words(words));
-    };
-    let bytes = (program.image.cells().len() as u64).saturating_mul(8);
-    if address % 8 == 0 && address < bytes {
-        return Ok(address);
-    }
-    Err(LabFault::Words(format!(in alloc;
-        "--word {address}: the memory has no such word: multiples of 8 below {bytes}"
-    )?))
-}
-
 /// The text of a run on a machine with room for `S` streams a processor, and how it ended.
 fn view_on<const S: usize>(
     alloc: Global,
@@ -122,14 +63,16 @@ fn view_on<const S: usize>(
     steps: &[Step],
     request: &ViewRequest,
     only: Only,
-) -> Result<(String, Status), AllocError> {
+) -> Result<(String, Status), LabFault> {
     let names = ProgramNames::of(alloc, &program.text)?;
+    let round = round_of_request(alloc, program, &names, steps, request)?;
     let layout = Layout {
         names: &names,
         request: *request,
         only,
         columns: Columns::of(&names, steps.len()),
         lanes: lanes_of(alloc, request, steps)?,
+        round,
     };
     let mut out = String::new(alloc);
     let status = if request.shown.json {
@@ -138,6 +81,24 @@ fn view_on<const S: usize>(
         layout.push_words::<S>(alloc, &mut out, program, steps)?
     };
     Ok((out, status))
+}
+
+/// The round at the end of the run that is to be marked, where one is.
+fn round_of_request(
+    alloc: Global,
+    program: &Program,
+    names: &ProgramNames<'_>,
+    steps: &[Step],
+    request: &ViewRequest,
+) -> Result<Option<EndRound>, LabFault> {
+    let Some(size) = request.round else {
+        return Ok(None);
+    };
+    let notation = Notation {
+        names,
+        style: style_of(request.shown),
+    };
+    Ok(Some(round_asked(alloc, program, notation, steps, size)?))
 }
 
 /// The streams of a schedule in the order of processor and stream, where each is to have a column.
@@ -163,65 +124,6 @@ fn schedule_name<'a>(run: RunChoice<'a>) -> &'a str {
     }
 }
 
-/// Whether the step of this number is shown.
-fn is_shown(request: &ViewRequest, only: Only, number: usize, view: &StepView) -> bool {
-    if number < request.from || number > request.to {
-        return false;
-    }
-    if let Some(stream) = only.stream
-        && stream != view.step
-    {
-        return false;
-    }
-    match only.word {
-        Some(address) => meets(view, address),
-        None => true,
-    }
-}
-
-/// Whether a step met the word at a byte address.
-fn meets(view: &StepView, address: u64) -> bool {
-    let is_asked = match view.reference {
-        Some(reference) => reference.address == address,
-        None => false,
-    };
-    is_asked
-        || view.changes.iter().any(|change| {
-            change.place == Place::Value { address } || change.place == Place::Tags { address }
-        })
-}
-
-/// Adds that there is no step of a stream, or none that uses a word, and between which steps; and how many steps the run
-/// has where the first of these is past its end.
-fn push_no_step(
-    out: &mut String,
-    names: &ProgramNames<'_>,
-    request: &ViewRequest,
-    only: Only,
-    steps: usize,
-) -> Result<(), AllocError> {
-    out.push_str("there is no step")?;
-    if let Some(Step { p, s }) = only.stream {
-        write!(out, " of {p}.{s}")?;
-    }
-    if let Some(address) = only.word {
-        out.push_str(" that uses ")?;
-        names.push_address(out, address)?;
-    }
-    let (from, to) = (request.from, request.to);
-    match (from, to) {
-        (0..=1, usize::MAX) => {}
-        (0..=1, _) => write!(out, " up to step {to}")?,
-        (_, usize::MAX) => write!(out, " from step {from} on")?,
-        _ => write!(out, " from step {from} to step {to}")?,
-    }
-    if from > steps {
-        let some_steps = plural(steps);
-        write!(out, ": the run has {steps} step{some_steps}")?;
-    }
-    out.push_str("\n")
-}
-
 /// The steps, from 1, that the words of an end name: since when streams wait, and who filled or emptied a word.
 fn steps_of_end(alloc: Global, end: &RunEnd) -> Result<Vec<usize>, AllocError> {
     let mut steps = Vec::new(alloc);
@@ -234,6 +136,13 @@ fn steps_of_end(alloc: Global, end: &RunEnd) -> Result<Vec<usize>, AllocError> {
     Ok(steps)
 }
 
+/// A part of a run, and the lines of its steps that are shown.
+#[derive(Drop)]
+struct ShownPart {
+    part: RunPart,
+    lines: StepLines,
+}
+
 /// How a run is shown.
 #[derive(Drop)]
 struct Layout<'a, 't> {
@@ -242,6 +151,7 @@ struct Layout<'a, 't> {
     only: Only,
     columns: Columns,
     lanes: Vec<Step>,
+    round: Option<EndRound>,
 }
 
 impl Layout<'_, '_> {
@@ -263,6 +173,9 @@ impl Layout<'_, '_> {
         push_object(alloc, out, &head)?;
         let views = run_views(alloc, &mut machine, steps)?;
         self.push_step_objects(alloc, out, &views)?;
+        if let Some(round) = self.round {
+            push_object(alloc, out, &round_value(alloc, round)?)?;
+        }
         let end = end_of(alloc, &machine, &views)?;
         let value = end_value(alloc, &end, &machine, steps)?;
         push_object(alloc, out, &value)?;
@@ -295,13 +208,19 @@ impl Layout<'_, '_> {
         steps: &[Step],
     ) -> Result<Status, AllocError> {
         let mut machine = loaded::<S>(alloc, &program.image)?;
-        let mut lines = StepLines::new(alloc);
-        let views = self.note_steps(alloc, &mut lines, &mut machine, steps)?;
+        let mut views = Vec::with_capacity(alloc, steps.len())?;
+        let mut shown = Vec::new(alloc);
+        for part in parts_of(self.round, steps.len()) {
+            shown.push(self.note_steps(&mut views, &mut machine, steps, part)?)?;
+        }
         let end = end_of(alloc, &machine, &views)?;
         let found = RunFindings::of::<S>(alloc, &program.image, steps)?;
-        lines.keep(&steps_of_end(alloc, &end)?)?;
-        lines.keep(&found.numbers_named(alloc)?)?;
-        self.push_lines(out, &lines, steps.len())?;
+        let mut named = steps_of_end(alloc, &end)?;
+        named.extend_from_slice(&found.numbers_named(alloc)?)?;
+        for part in shown.iter_mut() {
+            part.lines.keep(&named)?;
+        }
+        self.push_parts(out, &shown, steps.len())?;
         let style = style_of(self.request.shown);
         push_end(out, self.names, views.len(), &end)?;
         push_differing_words(out, self.names, style, &machine)?;
@@ -309,16 +228,20 @@ impl Layout<'_, '_> {
         Ok(status_of_run(&end))
     }
 
-    /// Takes the steps, notes the lines of those that are shown, and gives what each did.
+    /// Takes the steps of a part, adds what each did, and gives the lines of those that are shown.
     fn note_steps<const S: usize>(
         &self,
-        alloc: Global,
-        lines: &mut StepLines,
+        views: &mut Vec<StepView>,
         machine: &mut Machine<'_, S>,
         steps: &[Step],
-    ) -> Result<Vec<StepView>, AllocError> {
-        let mut views = Vec::with_capacity(alloc, steps.len())?;
-        for (index, step) in steps.iter().enumerate() {
+        part: RunPart,
+    ) -> Result<ShownPart, AllocError> {
+        let alloc = *views.allocator();
+        let mut lines = StepLines::new(alloc);
+        for index in part.from..part.to {
+            let Some(step) = steps.get(index) else {
+                break;
+            };
             let view = take_step(alloc, machine, *step)?;
             let number = index.saturating_add(1);
             if is_shown(&self.request, self.only, number, &view) {
@@ -327,7 +250,7 @@ impl Layout<'_, '_> {
             }
             views.push(view)?;
         }
-        Ok(views)
+        Ok(ShownPart { part, lines })
     }
 
     /// Adds the line of a step after its number.
@@ -349,24 +272,45 @@ impl Layout<'_, '_> {
         }
     }
 
-    /// Adds the lines of steps of a run of so many, after the heads of their columns.
-    fn push_lines(
+    /// Adds the lines of the parts of a run of so many steps, after the heads of their columns, and the marks of its round.
+    fn push_parts(
         &self,
         out: &mut String,
-        lines: &StepLines,
+        shown: &[ShownPart],
         steps: usize,
     ) -> Result<(), AllocError> {
-        if lines.is_empty() {
-            return if steps == 0 {
-                Ok(())
-            } else {
-                push_no_step(out, self.names, &self.request, self.only, steps)
-            };
+        if !shown.iter().all(|part| part.lines.is_empty()) {
+            self.push_heads(out)?;
+        } else if steps > 0 {
+            push_no_step(out, self.names, &self.request, self.only, steps)?;
         }
+        for part in shown {
+            self.push_part(out, part)?;
+        }
+        match self.round {
+            Some(round) => push_return(out, round, steps),
+            None => Ok(()),
+        }
+    }
+
+    /// Adds the heads of the columns of steps.
+    fn push_heads(&self, out: &mut String) -> Result<(), AllocError> {
         if self.lanes.is_empty() {
-            push_step_head(out, self.names, self.columns)?;
+            push_step_head(out, self.names, self.columns)
         } else {
-            push_lane_head(out, self.columns, &self.lanes)?;
+            push_lane_head(out, self.columns, &self.lanes)
+        }
+    }
+
+    /// Adds the lines of a part of a run, below the mark of the round if that begins there.
+    fn push_part(&self, out: &mut String, shown: &ShownPart) -> Result<(), AllocError> {
+        let RunPart { from, to } = shown.part;
+        let lines = &shown.lines;
+        if let Some(round) = self.round
+            && from >= round.begin
+            && from < to
+        {
+            push_mark(out, round, from)?;
         }
         if self.request.are_all {
             return lines.push_all(out, self.columns);

@@ -3,6 +3,7 @@
 
 mod end_texts;
 mod lanes;
+mod marked_rounds;
 mod marks;
 mod pages;
 mod parts;
@@ -16,6 +17,7 @@ mod whole_run;
 mod words_drawn;
 
 pub use lab_json as json_values;
+pub use marked_rounds::MarkedRound;
 pub use pages::{push_escaped, push_script_data};
 pub use parts::{
     push_base_style, push_elements_script, push_program_script, push_sentences_script,
@@ -25,7 +27,7 @@ pub use pictures::picture_of;
 pub use run_verdicts::RunVerdict;
 pub use runs::{PairNames, RunNames};
 pub use waits::{RunWait, run_waits};
-pub use whole_pages::{page_of_pair, page_of_run};
+pub use whole_pages::{page_of_pair, page_of_round, page_of_run};
 
 /// The most steps of a run that a page shows.
 pub const MOST_STEPS: usize = 100_000;

@@ -18,6 +18,7 @@ mod papers_script;
 mod picture_script;
 mod picture_words_script;
 mod program_script;
+mod round_script;
 mod run_script;
 mod sentences_script;
 mod source_script;
@@ -87,6 +88,7 @@ pub(crate) fn push_tail(page: &mut String) -> Result<(), AllocError> {
     page.push_str(world_script::TEXT)?;
     page.push_str(columns_script::TEXT)?;
     page.push_str(lanes_script::TEXT)?;
+    page.push_str(round_script::TEXT)?;
     page.push_str(picture_script::TEXT)?;
     page.push_str(picture_words_script::TEXT)?;
     page.push_str(telling_script::TEXT)?;
@@ -129,6 +131,7 @@ pub(crate) fn push_pair_tail(page: &mut String) -> Result<(), AllocError> {
     page.push_str(world_script::TEXT)?;
     page.push_str(columns_script::TEXT)?;
     page.push_str(lanes_script::TEXT)?;
+    page.push_str(round_script::TEXT)?;
     page.push_str(picture_script::TEXT)?;
     page.push_str(picture_words_script::TEXT)?;
     page.push_str(telling_script::TEXT)?;

@@ -1,5 +1,6 @@
 //! Runs as JSON.
 
+use crate::marked_rounds::MarkedRound;
 use crate::run_verdicts::RunVerdict;
 use crate::waits::RunWait;
 use crate::whole_run::WholeRun;
@@ -47,6 +48,35 @@ pub(crate) fn run_json<const S: usize>(
     start: &Machine<'_, S>,
     schedule: &[Step],
 ) -> Result<String, AllocError> {
+    let mut json = open_run(alloc, names, text, start, schedule)?;
+    verdict.push_members(alloc, &mut json)?;
+    json.push_str("}\n")?;
+    Ok(json)
+}
+
+/// The same of a run whose last steps are a round, and whose end was not judged.
+pub(crate) fn round_json<const S: usize>(
+    alloc: Global,
+    names: RunNames,
+    round: MarkedRound,
+    text: &[u8],
+    start: &Machine<'_, S>,
+    schedule: &[Step],
+) -> Result<String, AllocError> {
+    let mut json = open_run(alloc, names, text, start, schedule)?;
+    round.push_member(alloc, &mut json)?;
+    json.push_str("}\n")?;
+    Ok(json)
+}
+
+/// The members of a run, as an object that is not closed, so that others can follow.
+fn open_run<const S: usize>(
+    alloc: Global,
+    names: RunNames,
+    text: &[u8],
+    start: &Machine<'_, S>,
+    schedule: &[Step],
+) -> Result<String, AllocError> {
     let title = RunTitle {
         object: "page",
         program: names.program,
@@ -54,8 +84,6 @@ pub(crate) fn run_json<const S: usize>(
     };
     let mut json = open_head(alloc, title, text, start)?;
     push_run(alloc, &mut json, start, schedule)?;
-    verdict.push_members(alloc, &mut json)?;
-    json.push_str("}\n")?;
     Ok(json)
 }
 

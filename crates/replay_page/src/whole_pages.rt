@@ -1,8 +1,9 @@
 //! The pages of programs, of their images and their schedules.
 
+use crate::marked_rounds::MarkedRound;
 use crate::pages::{page_of, pair_page_of};
 use crate::run_verdicts::RunVerdict;
-use crate::runs::{PairNames, RunNames, both_names, pair_json, run_json};
+use crate::runs::{PairNames, RunNames, both_names, pair_json, round_json, run_json};
 use image_file::Image;
 use image_machines::{by_room, loaded};
 use processor::Step;
@@ -19,6 +20,20 @@ pub fn page_of_run(
     schedule: &[Step],
 ) -> Result<String, AllocError> {
     let json = by_room!(image, run_on(alloc, names, verdict, text, image, schedule))?;
+    let title = title_of(alloc, names.program, names.schedule)?;
+    page_of(alloc, &title, &json)
+}
+
+/// The page of such a run whose last steps are marked as a round; its end was not judged.
+pub fn page_of_round(
+    alloc: Global,
+    names: RunNames,
+    round: MarkedRound,
+    text: &[u8],
+    image: &Image,
+    schedule: &[Step],
+) -> Result<String, AllocError> {
+    let json = by_room!(image, round_on(alloc, names, round, text, image, schedule))?;
     let title = title_of(alloc, names.program, names.schedule)?;
     page_of(alloc, &title, &json)
 }
@@ -48,6 +63,19 @@ fn run_on<const S: usize>(
 ) -> Result<String, AllocError> {
     let machine = loaded::<S>(alloc, image)?;
     run_json(alloc, names, verdict, text, &machine, schedule)
+}
+
+/// The JSON of a run with a round, on a machine with room for `S` streams a processor.
+fn round_on<const S: usize>(
+    alloc: Global,
+    names: RunNames,
+    round: MarkedRound,
+    text: &[u8],
+    image: &Image,
+    schedule: &[Step],
+) -> Result<String, AllocError> {
+    let machine = loaded::<S>(alloc, image)?;
+    round_json(alloc, names, round, text, &machine, schedule)
 }
 
 /// The JSON of two runs, on machines with room for `S` streams a processor.

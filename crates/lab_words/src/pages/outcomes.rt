@@ -78,6 +78,19 @@ one that waits for a word which is in the right state again and again gets it at
 
 What to do: mta_lab explore lock.asm --waiting looks for rounds that are fair by words.
 
+= response
+Response: what a stream asks for comes at last, if the schedule is fair: whoever waits for a lock gets it, and whoever has a
+question gets an answer.
+
+What to do: mta_lab explore lock.asm --waiting says whether a stream can wait forever. explain fairness says what is fair.
+
+= overtaking overtake overtakes
+Overtaking: a stream that came later gets a lock before one that waits for it. If others can overtake it again and again, the
+one that waits may never get it.
+
+What to do: let each take a number by FADD, and enter in the order of the numbers. mta_lab new turns --from ticket writes
+such a lock.
+
 = livelock
 Livelock: streams take steps forever, and none of them comes any further, as two that step aside for each other.
 

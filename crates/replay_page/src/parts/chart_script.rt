@@ -145,6 +145,7 @@ function legendItems() {
   if (arrows.has("causes")) items.push([arrowSign("causes"), `makes it wait${whose}`]);
   if (run.findings.some((finding) => finding.kind !== "torn")) items.push([cross(), "lost"]);
   if (run.findings.some((finding) => finding.kind === "torn")) items.push([at(-9, 2, tornLine(18)), "torn read"]);
+  if (run.round) items.push([at(-10, 2, roundArrow(20)), "comes back to the same state"]);
   const fold = svg("text", { class: "small", x: -8, y: 4 }, "×8");
   if (columns.length < steps.length) items.push([fold, "so many alike steps"]);
   return items;

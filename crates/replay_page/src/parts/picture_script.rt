@@ -178,6 +178,7 @@ function drawRuler(left, viewWidth, width, isLive) {
     if (columns[c].isOpened) top.append(svg("path", { class: "opened", d: `M${x} ${RULER - 2}h${width}` }));
     if (c !== here) drawNumber(top, c, x + width / 2, gap, Math.abs(c - here) * width);
   }
+  drawRounds(top, left, viewWidth, width);
   if (here >= 0) drawFlag(top, here * width - left + width / 2, String(view.position));
   return top;
 }

@@ -1,0 +1,2 @@
+-- What public contracts promise.
+pub mod Rounds
