@@ -13,7 +13,7 @@ use Rattle.insn_word.specs.declared.insn.Insn.TheVariants.{Wide, Normal}
 use Rattle.tag_memory.specs.declared.requests.MemOp.{MemOp}
 use Rattle.tag_memory.specs.declared.requests.MemOp.TheVariants as op
 use Rattle.processor.specs.declared.steps.Step.{Step}
-use Rattle.run_findings.specs.Actions.{is_by, writes}
+use Rattle.run_findings.specs.Actions.{is_by, is_change}
 use Rattle.run_findings.specs.Marks.{is_quit}
 use Rattle.run_findings.specs.Places.{passes}
 use Rattle.run_findings.specs.declared.actions.Access.{Access}
@@ -68,13 +68,28 @@ deed_writes_target deed.Nothing k = false
 deed_writes_target deed.Trap k = k == 0
 deed_writes_target (deed.Instruction i) k = insn_writes_target i k
 
+-- whether an operation puts a value or tags into its word
+abbrev pub op_puts : MemOp → Bool
+op_puts op.Load = false
+op_puts op.Store = true
+op_puts op.Fadd = true
+op_puts op.TagGet = false
+op_puts op.TagSet = true
+op_puts op.Purge = true
+
+-- whether an access puts something into a word, be it what stood there, or leaves it otherwise than it was, as a LOAD that
+-- empties it
+abbrev pub access_puts : ℕ → Option Access → Bool
+access_puts a None = false
+access_puts a (Some x) = x.address == a && (op_puts x.op || is_change x)
+
 -- Whether step n, which this is, writes a location. A register is written by its own stream, and by the CREATE that
--- begins its stream. r0 is never written. A word is written by what leaves it otherwise than it was.
+-- begins its stream. r0 is never written.
 abbrev pub is_written : List Action → ℕ → Location → Action → Bool
 is_written ds n (location.Register t r) d =
     not (r == 0) && ((is_by t d && deed_writes d.deed r) || begins ds n t d)
 is_written ds n (location.Target t k) d = (is_by t d && deed_writes_target d.deed k) || begins ds n t d
-is_written ds n (location.Word a) d = writes a d
+is_written ds n (location.Word a) d = access_puts a d.access
 
 -- whether step n writes a location
 abbrev pub writes_at : List Action → Location → ℕ → Bool

@@ -2,13 +2,14 @@
 
 ghost use Rattle.std.specs.Prelude.{◌≡◌, ◌<◌, length};
 ghost use Rattle.value_origins.specs.Locations.{insn_writes, deed_writes, control_writes, insn_writes_target};
-ghost use Rattle.value_origins.specs.Locations.{deed_writes_target, writes_at};
+ghost use Rattle.value_origins.specs.Locations.{deed_writes_target, writes_at, access_puts, op_puts};
 ghost use Rattle.value_origins.specs.Tables.{AreStarts};
 
 use crate::streams::{Starts, is_quit};
 use insn_word::{CPart, ControlOp, Insn, WideOp};
 use processor::Step;
-use run_findings::{Action, Deed};
+use run_findings::{Access, Action, Deed};
+use tag_memory::MemOp;
 
 /// Where a value stands.
 #[derive(Clone, Copy, Debug, PartialEq, Eq)]
@@ -43,7 +44,27 @@ pub(crate) fn writes_at(
             (action.is_by(stream) && deed_writes_target(&action.deed, target))
                 || starts.begins(actions, step, stream)
         }
-        Location::Word { address } => action.writes(address),
+        Location::Word { address } => access_puts(&action.access, address),
+    }
+}
+
+/// Whether an access puts something into a word, be it what stood there, or leaves it otherwise than it was.
+fn access_puts(access: &Option<Access>, address: u64) -> bool
+    ensures { result ≡ access_puts address access.now }
+{
+    match access {
+        Some(access) => access.address == address && (op_puts(access.op) || access.is_change()),
+        None => false,
+    }
+}
+
+/// Whether an operation puts a value or tags into its word.
+fn op_puts(op: MemOp) -> bool
+    ensures { result ≡ op_puts op }
+{
+    match op {
+        MemOp::Store | MemOp::Fadd | MemOp::TagSet | MemOp::Purge => true,
+        MemOp::Load | MemOp::TagGet => false,
     }
 }
 
