@@ -1,6 +1,7 @@
 //! Runs as JSON.
 
 use crate::marked_rounds::MarkedRound;
+use crate::origins::push_origins;
 use crate::run_verdicts::RunVerdict;
 use crate::waits::RunWait;
 use crate::whole_run::WholeRun;
@@ -168,7 +169,7 @@ fn push_named_run<const S: usize>(
     json.push_str("}")
 }
 
-/// Adds the members of a run: its steps, waits, findings and end.
+/// Adds the members of a run: its steps, waits, findings, what its values come from, and its end.
 fn push_run<const S: usize>(
     alloc: Global,
     json: &mut String,
@@ -184,6 +185,7 @@ fn push_run<const S: usize>(
         "findings",
         &findings_value(alloc, &run.actions)?,
     )?;
+    push_origins(alloc, json, &run.views, &run.actions)?;
     push_member(alloc, json, "end", &end_part(alloc, &run.end)?)
 }
 

@@ -5,7 +5,7 @@ pub(crate) const TEXT: &str = r#"<!doctype html>
 <head>
 <meta charset="utf-8">
 <meta http-equiv="Content-Security-Policy"
- content="default-src 'none'; script-src 'sha256-fOyXbu+/fhubBQanqgwGGoB57/V7ShkJGH/1CFmnafw='; style-src 'sha256-EaY6JKP7BhQ33XjbgqgQJPhSoo8X0KvDAf8ZAyouB1E=';
+ content="default-src 'none'; script-src 'sha256-RepvzV/Qef1pHlD4x4U2YjhTltv/y2IdMWWSPJVQlAA='; style-src 'sha256-yvNbh0uRWtHlAd9rYNBxjwv/A3a3cVhp0KEnq9Qu+i0=';
  base-uri 'none'; form-action 'none'">
 <meta name="viewport" content="width=device-width, initial-scale=1">
 <meta name="color-scheme" content="light dark">
