@@ -24,9 +24,7 @@ pub(crate) const SCHEDULE_ARGUMENTS: [Argument; 4] = [
 ];
 
 /// What `--why` of `view` does not go with: it says itself which steps are shown, and how.
-const NOT_WITH_WHY: [&str; 7] = [
-    "from", "only", "word", "columns", "all", "round", "json",
-];
+const NOT_WITH_WHY: [&str; 7] = ["from", "only", "word", "columns", "all", "round", "json"];
 
 /// Of `view`.
 pub(crate) const VIEW_ARGUMENTS: [Argument; 16] = [

@@ -1,7 +1,7 @@
 //! The cases that submissions are judged by, read.
 
 use asked_programs::cells_of;
-use expectation_messages::parts::{Inputs, LabFault, folder_names, slash_after};
+use expectation_messages::parts::{Inputs, LabFault, RegularFile, folder_names, slash_after};
 use grade_reports::judges::Case;
 use lab_requests::GradeCases;
 use named_files::shown_name;
@@ -13,32 +13,34 @@ use std::str;
 /// The most cases that a folder has.
 const MOST_CASES: usize = 10_000;
 
-/// The case of a file of expectations, as the only one, without cells.
-fn case_of_file<F: Files, R: Read>(
-    alloc: Global,
-    inputs: &mut Inputs<'_, F, R>,
-    path: String,
-) -> Result<Case, LabFault> {
-    let expected = inputs.read(alloc, &path)?;
-    Ok(Case {
+/// The case of a file of expectations with these bytes, as the only one, without cells.
+fn case_of_file(alloc: Global, path: String, expected: Vec<u8>) -> Case {
+    Case {
         name: None,
         path,
         expected,
         cells: None,
         given: Vec::new(alloc),
-    })
+    }
 }
 
-/// Takes the cells of a file into a case.
-fn take_cells<F: Files, R: Read>(
+/// Takes the cells of a file with these bytes into a case.
+fn take_cells(alloc: Global, case: &mut Case, path: &str, given: Vec<u8>) -> Result<(), LabFault> {
+    case.cells = Some(cells_of(alloc, path, &given)?);
+    case.given = given;
+    Ok(())
+}
+
+/// All the bytes of a file in a folder of cases. It has to be a regular file: so nothing waits at a FIFO.
+fn read_in_folder<F: Files, R: Read>(
     alloc: Global,
     inputs: &mut Inputs<'_, F, R>,
-    case: &mut Case,
     path: &str,
-) -> Result<(), LabFault> {
-    case.given = inputs.read(alloc, path)?;
-    case.cells = Some(cells_of(alloc, path, &case.given)?);
-    Ok(())
+) -> Result<Vec<u8>, LabFault> {
+    match inputs.read_regular(alloc, path, false)? {
+        Ok(RegularFile { bytes, link: _link }) => Ok(bytes),
+        Err(why) => Err(LabFault::Words(format!(in alloc; "{path}: {why}")?)),
+    }
 }
 
 /// The cases that are asked for, in the order of their names, one at least.
@@ -65,9 +67,11 @@ fn case_given<F: Files, R: Read>(
     expected: &str,
     given: Option<&str>,
 ) -> Result<Case, LabFault> {
-    let mut case = case_of_file(alloc, inputs, String::from_str(alloc, expected)?)?;
+    let bytes = inputs.read(alloc, expected)?;
+    let mut case = case_of_file(alloc, String::from_str(alloc, expected)?, bytes);
     if let Some(path) = given {
-        take_cells(alloc, inputs, &mut case, path)?;
+        let bytes = inputs.read(alloc, path)?;
+        take_cells(alloc, &mut case, path, bytes)?;
     }
     Ok(case)
 }
@@ -95,9 +99,11 @@ fn case_of<F: Files, R: Read>(
 ) -> Result<Case, LabFault> {
     let slash = slash_after(folder);
     let expected = format!(in alloc; "{folder}{slash}{name}.expect")?;
-    let mut case = case_of_file(alloc, inputs, expected)?;
+    let bytes = read_in_folder(alloc, inputs, &expected)?;
+    let mut case = case_of_file(alloc, expected, bytes);
     let data = format!(in alloc; "{folder}{slash}{name}.data")?;
-    take_cells(alloc, inputs, &mut case, &data)?;
+    let bytes = read_in_folder(alloc, inputs, &data)?;
+    take_cells(alloc, &mut case, &data, bytes)?;
     case.name = Some(String::from_str(alloc, name)?);
     Ok(case)
 }
