@@ -12,6 +12,7 @@ import tempfile
 import xml.etree.ElementTree
 
 import checks
+import origins
 import schemas
 import tool
 from of_lab import EXAMPLES, lab, source_of
@@ -120,7 +121,7 @@ def pair_as_compared(source, one, other, *options):
     names = [f"the random schedule of seed {seed}" for seed in (one, other)] if options else [one, other]
     ways = [["--seed", it, *options[1:]] if options else [it] for it in (one, other)]
     alone = [run_in(written("page", source, *way)[1]) for way in ways]
-    parts = ("steps", "waits", "findings", "end")
+    parts = ("steps", "waits", "findings", "why", "end")
     wanted = {key: alone[0][key] for key in ("version", "name", "source", "program", "data", "names", "start", "slim")}
     wanted |= {"object": "pair", "schedule": " and ".join(names), "difference": difference, "runs": [
         {"schedule": name, **{part: run[part] for part in parts}} for name, run in zip(names, alone)]}
@@ -259,6 +260,69 @@ def findings():
 def found_in(name, schedule):
     _, page, _ = written("page", f"{name}.asm", f"{schedule}.schedule")
     return run_in(page)["findings"]
+
+
+# a stream that starts another one, calls, takes its status word and traps; each writes what others don't
+WRITERS = """ .slim 3
+ .trap back
+ .entry go
+ .data 5
+ .data 0
+go: LIT r3, 2
+ LITH r3, 0
+ RESERVE r4, r3
+ TLIT t1, other
+ CREATE t1, r4
+ FADD.N r3, r0, 1 | ADD r9, r3, r4 | CREATE t1, r0
+ TLIT t3, more
+ CALL t3, t2
+more: TGET r5, t2
+ TSET t4, r5
+ TLIT t4, after
+ XCHG t4
+after: TAGGET r6, r0, 0 | XOR r7, r6, r5 | XGET r8
+ LIT r6, 3
+ LOAD.S r6, r6, 0
+ QUIT
+other: LOAD.S r2, r0, 0 | ADD r3, r1, r1
+ STORE.S r2, r0, 0 | MUL r2, r2, 9
+ TAGSET r1, r0, 1
+ PTR r9, r1, r1
+ FADD.N r2, r0, 1 | QUITP
+back: XCHG t0
+ QUIT
+"""
+SPINS = " .slim 1\n .entry go\n .data 0\ngo: ADD r1, r1, 1 | SKIP ALWAYS, 0, go\n"
+
+
+@checks.others("pages/why")
+def why():
+    """What each step wrote, what it read for that, and who had written it: as a second reading of the steps says. Of 10,001
+    steps a page does not say it."""
+    for schedule in sorted(glob.glob(os.path.join(EXAMPLES, "*.schedule"))):
+        yield os.path.basename(schedule), lambda schedule=schedule: origins_in(source_of(schedule), schedule)
+    for source in sorted(glob.glob(os.path.join(EXAMPLES, "*.asm"))):
+        words = ("--seed", "5", "--steps", "300")
+        yield os.path.basename(source), lambda source=source, words=words: origins_in(source, *words)
+    for seed in map(str, range(8)):
+        yield f"all that writes, seed {seed}", lambda seed=seed: origins_of(WRITERS, "--seed", seed, "--steps", "200")
+    yield "10,000 steps", lambda: origins_of(SPINS, "--steps", "10000")
+    yield "10,001 steps", lambda: (None, why_of(SPINS, "--steps", "10001")["why"])
+
+
+def origins_in(source, *words):
+    run = run_in(written("page", source, *words)[1])
+    return origins.why(run), run["why"]
+
+
+def why_of(text, *words):
+    with tool.made_files(source=text.encode()) as paths:
+        return run_in(written("page", paths["source"], *words)[1])
+
+
+def origins_of(text, *words):
+    run = why_of(text, *words)
+    return origins.why(run), run["why"]
 
 
 @checks.others("pages/safety")

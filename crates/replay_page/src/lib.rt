@@ -4,6 +4,7 @@
 mod end_texts;
 mod lanes;
 mod marks;
+mod origins;
 mod pages;
 mod parts;
 mod pictures;
@@ -14,6 +15,7 @@ mod waits;
 mod whole_pages;
 mod whole_run;
 mod words_drawn;
+mod written;
 
 pub use lab_json as json_values;
 pub use pages::{push_escaped, push_script_data};
@@ -32,6 +34,9 @@ pub const MOST_STEPS: usize = 100_000;
 
 /// The most steps of each of two runs that a page shows.
 pub const MOST_STEPS_OF_TWO: usize = 50_000;
+
+/// The most steps of a run of which a page says what its values come from.
+pub const MOST_ASKED_STEPS: usize = 10_000;
 
 /// The most steps of a run that a picture shows.
 pub const MOST_DRAWN_STEPS: usize = 500;

@@ -1,5 +1,6 @@
 //! Runs as JSON.
 
+use crate::origins::push_origins;
 use crate::run_verdicts::RunVerdict;
 use crate::waits::RunWait;
 use crate::whole_run::WholeRun;
@@ -140,7 +141,7 @@ fn push_named_run<const S: usize>(
     json.push_str("}")
 }
 
-/// Adds the members of a run: its steps, waits, findings and end.
+/// Adds the members of a run: its steps, waits, findings, what its values come from, and its end.
 fn push_run<const S: usize>(
     alloc: Global,
     json: &mut String,
@@ -156,6 +157,7 @@ fn push_run<const S: usize>(
         "findings",
         &findings_value(alloc, &run.actions)?,
     )?;
+    push_origins(alloc, json, &run.views, &run.actions)?;
     push_member(alloc, json, "end", &end_part(alloc, &run.end)?)
 }
 
