@@ -149,7 +149,8 @@ function legendItems() {
 
 function makeLegend() {
   const sized = { class: "pic", width: 24, height: 24, viewBox: "-12 -12 24 24", "aria-hidden": "true" };
-  const items = new Map(perRun(legendItems).flat().map(([node, name]) => [name, node]));
+  const signs = perRun(() => [...legendItems(), ...chainItems()]).flat();
+  const items = new Map(signs.map(([node, name]) => [name, node]));
   byId("legend").replaceChildren(
     ...[...items].map(([name, node]) => html("span", {}, svg("svg", sized, node), name)));
 }

@@ -12,6 +12,7 @@ function show() {
   keepInSight();
   keepLaneInSight();
   repaint();
+  markChain();
   byId("slider").value = n;
   byId("slider").setAttribute("aria-valuetext", `position ${n} of ${steps.length}`);
   byId("where").textContent = `${n} / ${steps.length}`;
@@ -96,6 +97,7 @@ function setHex() {
   tableFrom = -1;
   showEnd();
   showWaits();
+  showWhy();
   show();
 }
 
@@ -113,18 +115,20 @@ const KEYS = {
   " ": () => play(), ",": () => seekMarked(-1), ".": () => seekMarked(1),
   "+": () => zoom(1), "=": () => zoom(1), "-": () => zoom(-1), 0: () => zoom(0),
   x: setHex, f: foldAgain, s: save, Enter: () => openFold(columns[columnOf[view.position]]),
-  Escape: () => choose({ stream: null, word: null, line: null }), "?": () => byId("keys").showModal(),
+  w: () => askWhy(view.word === null ? null : wordName(view.word)),
+  Escape: () => (unask(), choose({ stream: null, word: null, line: null })), "?": () => byId("keys").showModal(),
 };
 
-/** Arrow keys in a list of buttons go to the next one; else they are the page's. */
+/** Arrow keys in a list of buttons go to the next one of their kind; else they are the page's. */
 function onKey(event) {
   if (event.ctrlKey || event.metaKey || event.altKey || byId("keys").open) return;
   const control = event.target.closest("button, input, a");
   if (control && [" ", "Enter"].includes(event.key)) return;
-  const list = event.target.closest("#heads, #lines, #words");
+  const kind = control?.matches(".why") ? ".why" : "button:not(.why)";
+  const list = event.target.closest(`#heads, #lines, #words${kind === ".why" ? ", #stream" : ""}`);
   const isSideways = /^Arrow(Left|Right)$/.test(event.key);
   if (list && /^Arrow(Up|Down)$/.test(event.key)) {
-    const all = [...list.querySelectorAll("button")];
+    const all = [...list.querySelectorAll(kind)];
     all[all.indexOf(control) + (event.key === "ArrowUp" ? -1 : 1)]?.focus();
   } else if (event.shiftKey && isSideways) {
     goTo(seek(stepsOf.get(shownStream()) ?? [], event.key === "ArrowLeft" ? -1 : 1));
@@ -169,6 +173,7 @@ function listen() {
   byId("numbers").addEventListener("click", onChart);
   byId("lines").addEventListener("click", onLine);
   byId("words").addEventListener("click", onWord);
+  for (const id of ["state", "why"]) byId(id).addEventListener("click", onWhy);
   for (const [id, act] of Object.entries(BUTTONS)) byId(id).addEventListener("click", act);
   byId("slider").addEventListener("input", (event) => goTo(Number(event.target.value)));
   scroller.addEventListener("scroll", repaint, { passive: true });

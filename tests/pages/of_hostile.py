@@ -3,6 +3,7 @@
 import html
 import re
 
+import origins
 import runs
 import tally
 
@@ -21,6 +22,7 @@ ALIVE = """
 def evil_run():
     """A run whose every text is hostile."""
     run = runs.sample("lock.lost_update")
+    run["why"] = origins.why(run)
     run["name"], run["schedule"] = f"<img src=x onerror=window.evil=4>{EVIL}", f"{EVIL}.schedule"
     run["source"][0] = f"; {EVIL}"
     run["source"][1] = "; " + "x" * LONG
@@ -51,6 +53,8 @@ def is_text(page, what, text):
     tally.same(f"{what}: the title", page.driver.title, html.unescape(title).strip())
     for position in (0, 4, 7):
         page.go(str(position))
+        page.press("w")
+    tally.same(f"{what}: no element came of it in a chain", page.all("#why img, #why script, #why style"), [])
     tally.check(f"{what}: nothing of it ran at other positions", page.script(ALIVE))
     page.quiet(what)
 

@@ -1,5 +1,6 @@
 """Widths and themes: nothing sticks out of the window, the ruler stands over the lanes, texts can be read."""
 
+import of_why
 import runs
 import tally
 
@@ -41,15 +42,19 @@ def can_be_read(page, theme):
 
 
 def fits(page, name, width, theme):
-    page.open(name, runs.example(page.folder, name))
+    page.open(name, of_why.with_why(runs.example(page.folder, name))[0])
     page.painted()
     what = f"{name}, {width} pixels, {theme}"
-    tally.check(f"{what}: nothing sticks out", page.script("return document.documentElement.scrollWidth <= innerWidth"))
-    tally.same(f"{what}: no element is outside", page.script(OUTSIDE), [])
+    for shown in ("", ", with a chain"):
+        is_in = page.script("return document.documentElement.scrollWidth <= innerWidth")
+        tally.check(f"{what}{shown}: nothing sticks out", is_in)
+        tally.same(f"{what}{shown}: no element is outside", page.script(OUTSIDE), [])
+        page.press("w")
+        page.painted()
     edges = [page.script("return document.getElementById(arguments[0]).getBoundingClientRect().left", id)
              for id in ("numbers", "picture")]
     tally.check(f"{what}: numbers stand over their steps", abs(edges[0] - edges[1]) < 1, edges)
-    for id in ("end", "slider", "told", "picture", "legend", "steps", "lines", "stream", "words"):
+    for id in ("end", "slider", "told", "picture", "legend", "steps", "lines", "stream", "words", "why"):
         tally.check(f"{what}: {id} is there", page.one(f"#{id}").is_displayed())
     page.quiet(what)
 

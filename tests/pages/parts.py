@@ -2,6 +2,7 @@
 
 import browser
 import of_access
+import of_asking
 import of_controls
 import of_files
 import of_firefox
@@ -22,6 +23,7 @@ ALL = {
     "states": of_states.part,
     "controls": of_controls.part,
     "access": of_access.part,
+    "asking": of_asking.part,
     "pictures": of_pictures.part,
     "pairs": of_pairs.part,
     "play": of_play.part,

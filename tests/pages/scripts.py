@@ -6,6 +6,7 @@ import of_page_sentences
 import of_readme
 import of_sentences
 import of_verdicts
+import of_why
 import stand_in
 
 ALL = {
@@ -15,5 +16,6 @@ ALL = {
     "readme": of_readme.part,
     "sentences": of_sentences.part,
     "page_sentences": of_page_sentences.part,
+    "why": of_why.part,
 }
 opened = stand_in.opened

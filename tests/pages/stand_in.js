@@ -181,6 +181,7 @@ class Element {
     return { left: 0, top: 0, width: WIDTH, height: WIDTH };
   }
 
+  scrollIntoView() {}
   addEventListener() {}
   showModal() {}
   select() {}

@@ -33,6 +33,7 @@ mod template_6;
 mod two_script;
 mod two_start_script;
 mod values_script;
+mod why_script;
 mod world_script;
 
 use std::alloc::AllocError;
@@ -90,6 +91,7 @@ pub(crate) fn push_tail(page: &mut String) -> Result<(), AllocError> {
     page.push_str(picture_script::TEXT)?;
     page.push_str(picture_words_script::TEXT)?;
     page.push_str(telling_script::TEXT)?;
+    page.push_str(why_script::TEXT)?;
     page.push_str(panels_script::TEXT)?;
     page.push_str(source_script::TEXT)?;
     page.push_str(end_script::TEXT)?;
@@ -132,6 +134,7 @@ pub(crate) fn push_pair_tail(page: &mut String) -> Result<(), AllocError> {
     page.push_str(picture_script::TEXT)?;
     page.push_str(picture_words_script::TEXT)?;
     page.push_str(telling_script::TEXT)?;
+    page.push_str(why_script::TEXT)?;
     page.push_str(panels_script::TEXT)?;
     page.push_str(source_script::TEXT)?;
     page.push_str(end_script::TEXT)?;

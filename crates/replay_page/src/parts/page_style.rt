@@ -120,6 +120,9 @@ section h2 { padding: 9px 12px; }
 .pic .arrow.causes path { stroke: var(--blocked-ink); stroke-dasharray: 4 3; }
 .pic .arrow.causes .head { fill: var(--blocked-ink); stroke: none; }
 .pic .arrow.here path { stroke-width: 2.5; }
+.pic .cell .chain.chain, .pic .chain { fill: none; stroke: var(--ink); stroke-width: 2; stroke-dasharray: 4 2; }
+.pic .arrow.comes path { stroke: var(--ink); stroke-dasharray: 1 3; }
+.pic .arrow.comes .head { fill: var(--ink); stroke: none; }
 .pic .edge { fill: none; stroke: var(--blocked-ink); stroke-width: 2; }
 .pic .edge-head { fill: var(--blocked-ink); }
 .pic .node text { text-anchor: middle; font: 600 12.5px monospace; }
@@ -166,6 +169,17 @@ button.word { padding: 0; border: 0; background: none; color: var(--done); font:
   cursor: pointer; }
 .bit { display: inline-block; width: 10px; height: 10px; margin-right: 5px; border: 1.5px solid var(--full-ink); }
 .bit.full { background: var(--full-ink); }
+button.why { padding: 0; border: 0; background: none; color: inherit; font: inherit; text-align: left; cursor: pointer;
+  text-decoration: underline dotted var(--muted); text-underline-offset: 3px; }
+#why { position: relative; flex: 0 1 auto; min-height: 110px; max-height: 280px; overflow: auto;
+  border-top: 1px solid var(--rule); }
+#why:focus-visible { outline-offset: -2px; }
+#why p { padding: 0 12px 4px; } #why ol { list-style: none; padding: 0 0 6px; font-size: 13px; }
+#why li { padding: 2px 12px; border-top: 1px solid var(--faint); overflow-wrap: anywhere; }
+#why li.now { background: var(--here); }
+#unask { position: absolute; right: 8px; top: 6px; padding: 2px 8px; border: 1px solid var(--rule); border-radius: 6px;
+  background: var(--paper); color: inherit; font: 12.5px var(--prose); cursor: pointer; }
+#why h2 { padding-right: 80px; overflow-wrap: anywhere; }
 #words { border-top: 1px solid var(--rule); margin-top: 6px; }
 #trace { flex: 1 1 0; min-height: 150px; overflow: auto; position: relative; border-top: 1px solid var(--rule); }
 #trace table { font-size: 12.5px; }

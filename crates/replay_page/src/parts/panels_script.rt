@@ -7,7 +7,7 @@ const counts = (used, reserved) => `${used} in use, ${reserved} reserved`;
 
 const row = (name, place, value, change, note) =>
   html("tr", { class: change ? "changed" : null }, html("th", { scope: "row" }, name),
-    html("td", { "data-place": place, "data-value": value }, ...(change || [note ?? number(value)])));
+    html("td", { "data-place": place, "data-value": value }, ...whyButton(place, change || [note ?? number(value)])));
 
 const isSet = (value) => String(value) !== "0";
 
@@ -57,6 +57,14 @@ function stateOf(id) {
   return (lives.get(id) ?? []).some(([from]) => from <= view.position) ? "has quit" : "idle";
 }
 
+/** The element that is made anew by something has the focus again where it had it. */
+function keepFocus(node, act) {
+  const { word, why } = document.activeElement?.dataset ?? {};
+  const old = node.contains(document.activeElement) && (why ? `[data-why="${why}"]` : word && `[data-word="${word}"]`);
+  act();
+  if (old) node.querySelector(old)?.focus({ preventScroll: true });
+}
+
 function showStream() {
   const id = shownStream();
   const changes = changesHere();
@@ -66,11 +74,11 @@ function showStream() {
   rows.push(processorRow(id.split(".")[0], changes));
   const kind = wait ? "blocked" : status.split(" ")[0];
   const tag = html("span", { class: `tag ${kind}`, "data-place": `${id}.status`, "data-value": status }, stateOf(id));
-  byId("stream").replaceChildren(
+  keepFocus(byId("stream"), () => byId("stream").replaceChildren(
     html("h2", {}, `Stream ${id} `, tag),
     ...(wait ? [html("p", { class: "waiting" }, "It ", ...waitText(wait, view.position), ".")] : []),
     html("table", { "aria-label": `Stream ${id}` }, html("tbody", {}, ...rows)),
-  );
+  ));
 }
 
 // ---------------------------------------------------------------- words
@@ -111,7 +119,7 @@ function wordRow(address, changes, who) {
     html("th", { scope: "row" },
       html("button", { class: "word", "data-word": address, "aria-pressed": pressed },
         cut(namedWord(address), WORD_LETTERS))),
-    html("td", { "data-place": valuePlace, "data-value": value }, told),
+    html("td", { "data-place": valuePlace, "data-value": value }, ...whyButton(valuePlace, [told])),
     html("td", { "data-place": tagsPlace, "data-value": tags },
       html("span", { class: `bit ${full}`, "aria-hidden": "true" }),
       `${full}${tags & 14 ? `, ${tagsText(tags)}` : ""}`),
@@ -119,19 +127,17 @@ function wordRow(address, changes, who) {
 }
 
 function showWords() {
-  const focused = document.activeElement?.dataset?.word;
   const changes = changesHere();
   const waiting = waitersHere();
   const shown = wordKeys.slice(0, WORDS_SHOWN);
   const rows = shown.map((address) => wordRow(address, changes, waiting.get(address)));
   const rest = startWords.length - rows.length;
   const why = wordKeys.length > WORDS_SHOWN ? "not listed" : "that no step touched";
-  byId("words").replaceChildren(
+  keepFocus(byId("words"), () => byId("words").replaceChildren(
     html("h2", {}, "Words"),
     html("table", { class: "words", "aria-label": "Words" }, html("tbody", {}, ...rows)),
     ...(rest ? [html("p", { class: "muted" }, `${rest} more ${why}.`)] : []),
-  );
-  // The rows are new: the button that had the focus has it again.
-  if (focused) byId("words").querySelector(`[data-word="${focused}"]`)?.focus({ preventScroll: true });
+    ...(run.why === null ? [html("p", { class: "muted" }, NO_CHAIN)] : []),
+  ));
 }
 "#;

@@ -50,6 +50,7 @@ function drawLanes(left, viewWidth, width, isLive) {
   drawGround(picture);
   for (const lane of lanes) (lane.stream ? drawStream : drawWord)(picture, lane);
   for (let c = picture.first; c <= picture.last; c++) drawColumn(picture, c);
+  if (picture.isLive && question) for (const [from, to] of chainLinks()) drawArrow(picture, from, to, "comes");
   return picture.top;
 }
 
@@ -153,6 +154,7 @@ function drawCell(picture, middle, { step, n, count }, c) {
   if (picture.isLive && view.line && stepLine(step) === view.line) {
     node.append(svg("rect", { class: "ring", x: -width / 2, y: -CELL / 2 - 2, width, height: CELL + 4, rx: 4 }));
   }
+  if (picture.isLive && isInChain(columns[c], step.who)) node.append(chainSign(width));
   node.classList.toggle("here", c === picture.here);
   node.append(svg("title", {}, cellTitle(step, n, count, columns[c])));
   picture.cells.append(node);

@@ -5,7 +5,7 @@ pub(crate) const TEXT: &str = r#"<!doctype html>
 <head>
 <meta charset="utf-8">
 <meta http-equiv="Content-Security-Policy"
- content="default-src 'none'; script-src 'sha256-csScPJT4RJg2t8xJEjslKCjn/wh6/0ZYMFdwXxu7n4c='; style-src 'sha256-L5CRvwZPtCBI1WIP2nJ+IFVDtTlVruvnYpBllQjk1Ek=';
+ content="default-src 'none'; script-src 'sha256-l9dJ1DpRBittzfMU0tCFN+dSaofXFfHMmS+QexVLjGo='; style-src 'sha256-snpTiWiP9qlx5YGn3VUE+26uendTIbu5ggCvxFFPwSI=';
  base-uri 'none'; form-action 'none'">
 <meta name="viewport" content="width=device-width, initial-scale=1">
 <meta name="color-scheme" content="light dark">

@@ -48,6 +48,7 @@ pub(crate) const TEXT: &str = r##"</style>
       </div>
     </div>
     <div id="legend" role="group" aria-label="What the signs mean"></div>
+    <div id="why" tabindex="-1" role="region" aria-labelledby="why-title" hidden></div>
     <div id="trace" tabindex="0" role="region" aria-label="Steps, waits and streams as tables">
       <button id="earlier" class="more" hidden></button>
       <table id="steps"></table>
@@ -73,18 +74,21 @@ pub(crate) const TEXT: &str = r##"</style>
     <tr><td><kbd>&larr;</kbd> <kbd>&rarr;</kbd></td><td>one step back, one step on</td></tr>
     <tr><td><kbd>Shift</kbd> <kbd>&larr;</kbd> <kbd>&rarr;</kbd></td><td>this stream's last or next step</td></tr>
     <tr><td><kbd>&uarr;</kbd> <kbd>&darr;</kbd></td><td>choose the stream above or below</td></tr>
-    <tr><td><kbd>Esc</kbd></td><td>let the chosen stream, word and line go</td></tr>
+    <tr><td><kbd>Esc</kbd></td><td>let the chosen stream, word and line go, and the chain of a value</td></tr>
     <tr><td><kbd>Home</kbd> <kbd>End</kbd></td><td>the start, the end</td></tr>
     <tr><td><kbd>,</kbd> <kbd>.</kbd></td><td>last or next step that touches the chosen word or is of the chosen line;
       else that waits, traps or is part of a finding</td></tr>
     <tr><td><kbd>Space</kbd></td><td>play, pause</td></tr>
     <tr><td><kbd>+</kbd> <kbd>-</kbd> <kbd>0</kbd></td><td>wider, narrower, fitting steps</td></tr>
     <tr><td><kbd>Enter</kbd></td><td>open the folded steps here; <kbd>f</kbd> folds all again</td></tr>
+    <tr><td><kbd>w</kbd></td><td>why: the steps that the chosen word's value comes from, else what this step
+      wrote</td></tr>
     <tr><td><kbd>x</kbd></td><td>hexadecimal or decimal numbers</td></tr>
     <tr><td><kbd>s</kbd></td><td>save the lanes as a picture</td></tr>
     <tr><td><kbd>?</kbd></td><td>these keys</td></tr>
   </tbody></table>
-  <p>Click a step to go there, a stream to keep it at the right, a word or a line to mark its steps. A link to a
+  <p>Click a step to go there, a stream to keep it at the right, a word or a line to mark its steps, a value to see the
+    steps that it comes from. A link to a
     position ends in <code>#17</code>, and with a stream kept in <code>#17.2.0</code>.</p>
   <form method="dialog"><button>Close</button></form>
 </dialog>

@@ -5,7 +5,7 @@ pub(crate) const TEXT: &str = r#"<!doctype html>
 <head>
 <meta charset="utf-8">
 <meta http-equiv="Content-Security-Policy"
- content="default-src 'none'; script-src 'sha256-TDSFP4tDITdcaTMPt5/QJuKZJzVftMSOmHG1HlkqlpA='; style-src 'sha256-5qNGc7Y9rGQSaz6TOZfap4m3UyOjxzIR48WgED2Lw/g=';
+ content="default-src 'none'; script-src 'sha256-0m5LTwHA+KhVOB5QkFwjXQsZLbDttmN6/SN586+yi6o='; style-src 'sha256-HYFKxxxUv2Xpl0I/BDgkWHiKJTxY/IM7PCMqzuKjKmU=';
  base-uri 'none'; form-action 'none'">
 <meta name="viewport" content="width=device-width, initial-scale=1">
 <meta name="color-scheme" content="light dark">

@@ -12,14 +12,14 @@ const sideName = (k) => `run ${k + 1}`;
 
 const taken = () => ({
   run, steps, runMark, world, stepsOf, stepsAt, waitsOf, lives, wordStates, inFinding, allStreams, atEnd, opened,
-  columns, columnOf, hasManyArrows, lanes, laneOf, endRoom, chartTop, wordKeys, telling, tableFrom,
+  columns, columnOf, hasManyArrows, lanes, laneOf, endRoom, chartTop, wordKeys, telling, tableFrom, question,
   position: view.position,
 });
 
 function put(side) {
   ({
     run, steps, runMark, world, stepsOf, stepsAt, waitsOf, lives, wordStates, inFinding, allStreams, atEnd, opened,
-    columns, columnOf, hasManyArrows, lanes, laneOf, endRoom, chartTop, wordKeys, telling, tableFrom,
+    columns, columnOf, hasManyArrows, lanes, laneOf, endRoom, chartTop, wordKeys, telling, tableFrom, question,
   } = side);
   view.position = side.position;
 }
@@ -48,6 +48,7 @@ function showSide(k) {
   byId("slider").max = steps.length;
   showEnd();
   showWaits();
+  showWhy();
   goTo(view.position);
 }
 
