@@ -7,8 +7,8 @@ _mta_lab_options() {
     fmt) echo '--check --color --help' ;;
     schedule) echo '--seed --steps --color --help' ;;
     view)
-      echo '--given --fair --seed --steps --from --to --only --word --columns --all --round --hex --json --color
-        --help'
+      echo '--given --fair --seed --steps --from --to --only --word --why --columns --all --round --hex --json
+        --color --help'
       ;;
     debug) echo '--given --fair --seed --steps --color --help' ;;
     dap) echo '--color --help' ;;
@@ -52,8 +52,8 @@ _mta_lab_value() {
       'page 1' | 'picture 1' | 'play 1') echo 'files .asm .image' ;;
     *' --color') echo 'words auto always never' ;;
     *' --seed' | *' --steps' | 'view --from' | 'survey --from' | 'picture --from' | *' --to' | *' --only' | \
-      *' --word' | *' --round' | 'survey --seeds' | 'grade --seeds' | *' --states' | *' --seconds' | *' --memory' | \
-      *' --jobs' | *' --part' | *' --hint' | *' --title' | 'word '[0-9]* | 'new 1') echo 'text' ;;
+      *' --word' | *' --why' | *' --round' | 'survey --seeds' | 'grade --seeds' | *' --states' | *' --seconds' | \
+      *' --memory' | *' --jobs' | *' --part' | *' --hint' | *' --title' | 'word '[0-9]* | 'new 1') echo 'text' ;;
     *' --given') echo 'files .data' ;;
     'explore --from' | 'play --from' | 'view 2' | 'debug 2' | 'compare 2' | 'compare 3' | 'page 2' | 'page 3' | \
       'picture 2') echo 'files .schedule' ;;

@@ -45,6 +45,7 @@ complete -c mta_lab -n '__fish_seen_subcommand_from view' -l from -x -d 'the fir
 complete -c mta_lab -n '__fish_seen_subcommand_from view' -l to -x -d 'the last step that is shown'
 complete -c mta_lab -n '__fish_seen_subcommand_from view' -l only -x -d 'shows only the steps of this stream'
 complete -c mta_lab -n '__fish_seen_subcommand_from view' -l word -x -d 'shows the steps that use the word at this byte address, or of this name'
+complete -c mta_lab -n '__fish_seen_subcommand_from view' -l why -x -d 'shows the steps that the value of this register or word comes from, as 2.0.r6 or [8]'
 complete -c mta_lab -n '__fish_seen_subcommand_from view' -l columns -f -d 'a column a stream'
 complete -c mta_lab -n '__fish_seen_subcommand_from view' -l all -f -d 'a line for each step, also where a loop repeats'
 complete -c mta_lab -n '__fish_seen_subcommand_from view page' -l round -x -d 'marks the last N steps as a round: they come back to the same state'
