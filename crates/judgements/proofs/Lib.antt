@@ -4,6 +4,5 @@ mod Flaws
 mod Statuses
 mod Right
 mod Shown
-mod Known
 mod ReadCases
 mod Pushed
