@@ -1,4 +1,4 @@
-"""A second reading of docs/LAB_REFERENCE.md ("What a value comes from"): of each step of a run in a page the locations that
+"""A second reading of docs/LAB_REFERENCE.md ("Why a value is there"): of each step of a run in a page the locations that
 it wrote, and those that it read for each of them, from its instruction and its outcome alone."""
 
 ARITHMETIC = set("ADD SUB MUL AND OR XOR ANDN SHL SHR SAR TALLY LTS LTU PTR".split())

@@ -11,8 +11,8 @@ use std::alloc::{AllocError, Global};
 use step_views::StepView;
 use value_origins::{Location, Starts, last_writer, sources_of};
 
-/// Adds of each step of a run what it wrote, with what it read for that and who wrote it (docs/LAB_REFERENCE.md, "What a
-/// value comes from"); null of a run that has too many steps. The actions are those of the same steps from the start.
+/// Adds of each step of a run what it wrote, with what it read for that and who wrote it (docs/LAB_REFERENCE.md, "Why a
+/// value is there"); null of a run that has too many steps. The actions are those of the same steps from the start.
 pub(crate) fn push_origins(
     alloc: Global,
     json: &mut String,
