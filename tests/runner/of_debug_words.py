@@ -14,6 +14,7 @@ import tool
 from table import unescaped
 
 LINES = 120
+NO_NAME = b"no word is named x: names need a source text with a comment that is a name, as .data 0 ; total\n"
 NO_PLACE = b"until takes a label, as eat or eat+1, or a line\n"
 NO_BREAK = b"break takes a label, as eat or eat+1, or a line, perhaps after a processor\n"
 AT = re.compile(rb"after (\d+) of (\d+) steps")
@@ -60,7 +61,7 @@ def sessions():
 def refusals():
     """Words whose arguments say nothing: each is refused in words, and the session stays where it is."""
     for line, said in (("step x", b"step takes a number of steps, as 5\n"), ("back -1", b"back takes a number of steps, as 5\n"),
-                       ("list 9", b"list takes a stream, as 2.0\n"), ("why x", b"why takes a stream, as 2.0\n"),
+                       ("list 9", b"list takes a stream, as 2.0\n"), ("why x", NO_NAME),
                        ("delete x", b"delete takes the number of a point\n"), ("try x", b"try takes a stream, as 2.0\n"),
                        ("break 2 bare+99", NO_BREAK), ("break x bare", NO_BREAK), ("until bare+", NO_PLACE),
                        ("until 99", NO_PLACE), ("\x07\x1b[2K", b"\\x07\\x1b[2K: no such word; help lists them\n")):

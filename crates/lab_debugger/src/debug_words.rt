@@ -103,7 +103,7 @@ info WHAT           streams: who runs and where; points: the stops; waiting: who
 print WHAT          r1 of the stream that comes next, 2.0.r1 of another, [A] a word, 2.0 a stream with all registers
 list [P.S]          the program around a stream
 why [P.S]           what a stream waits for, and which step filled or emptied the word last
-why WHAT            the steps that a value comes from: of [A] a word, of 2.0.r6 a register
+why WHAT            the steps that the value of a word [A] or of a register 2.0.r6 comes from
 try P.S             a step of this stream now; the schedule from here on is yours
 undo                takes the last try back, and what it dropped of the schedule comes back
 run                 from the start on to the first stop, or to the end
