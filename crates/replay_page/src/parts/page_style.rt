@@ -119,7 +119,8 @@ section h2 { padding: 9px 12px; }
 .pic .arrow .head { fill: var(--full-ink); stroke: none; }
 .pic .arrow.causes path { stroke: var(--blocked-ink); stroke-dasharray: 4 3; }
 .pic .arrow.causes .head { fill: var(--blocked-ink); stroke: none; }
-.pic .round path { fill: none; stroke: var(--ink); stroke-width: 1.5; } .pic .round .head { fill: var(--ink); stroke: none; }
+.pic .round path { fill: none; stroke: var(--ink); stroke-width: 1.5; }
+.pic .round .head { fill: var(--ink); stroke: none; }
 .pic .arrow.here path { stroke-width: 2.5; }
 .pic .cell .chain.chain, .pic .chain { fill: none; stroke: var(--ink); stroke-width: 2; stroke-dasharray: 4 2; }
 .pic .arrow.comes path { stroke: var(--ink); stroke-dasharray: 1 3; }
