@@ -76,8 +76,14 @@ def commands(folder):
     ]
 
 
+def is_begun(words, whole, out):
+    """Whether nothing was printed, or of `grade` whole lines of what it prints with ample memory, the first ones."""
+    return out == b"" or words[0] == "grade" and whole.startswith(out) and out.endswith(b"\n")
+
+
 def refuse_each(library, folder, words):
-    """Refuses each allocation of a command in turn: it ends as with ample memory, or says that memory was refused."""
+    """Refuses each allocation of a command in turn: it ends as with ample memory, or says that memory was refused. The rows
+    of `grade` are printed as they are known, so some of them may stand before that."""
     tally = Tally()
     ample = lab(words)
     tally.check(f"{words[0]} with ample memory: {ample}", ample.status in STATUSES)
@@ -88,7 +94,7 @@ def refuse_each(library, folder, words):
         ended = lab(words, **refused_allocation(library, folder, number))
         tally.runs += 1
         as_ever = (ended.status, ended.out, ended.err) == (ample.status, ample.out, ample.err)
-        told = ended.status == 1 and ended.out == b"" and ended.err == NO_MEMORY
+        told = ended.status == 1 and is_begun(words, ample.out, ended.out) and ended.err == NO_MEMORY
         unread = ended.status == 2 and ended.out == b"" and b"out of memory" in ended.err
         bounded = "explore" in " ".join(words) and ended.status in STATUSES and NOT_ALL.search(ended.out) is not None
         tally.refused += told or unread
