@@ -4,5 +4,6 @@ mod Flaws
 mod Statuses
 mod Right
 mod Shown
+mod Known
 mod ReadCases
 mod Pushed

@@ -48,3 +48,13 @@ returns-clause-shown c = λ p search. inr (refl, left_open c p search)
 
 pub returns-clause-left : goal.returns-clause-left
 returns-clause-left c = λ p search kind. left_open c p search
+
+pub returns-in-Some-unshown-clause-decided : goal.returns-in-Some-unshown-clause-decided
+returns-in-Some-unshown-clause-decided c =
+    let found = c.args.found.now in
+    let claim = c.in-Some-unshown.claim in
+    is_complete found.is_complete found.unshown claim
+    (ap (λ (u : Unkept). u.unshown) (sym c.unkept.ensures) ∙ c.in-Some-unshown.is)
+
+pub returns-clause-decided : goal.returns-clause-decided
+returns-clause-decided c = λ right. absurd cc
