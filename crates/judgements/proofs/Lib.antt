@@ -4,6 +4,6 @@ mod Flaws
 mod Statuses
 mod Right
 mod Shown
-mod Known
+mod WhatWasRun
 mod ReadCases
 mod Pushed

@@ -167,7 +167,6 @@ fn judged_program<X: Threads + Sync, C: Clock, E: Write>(
     ensures work { IfOk result (λ j. j.kind ≡ VerdictKind.Right
         → IsWorkDone judged.entry.image.now judged.entry.required.now (seeds_of asked)) }
     ensures shown { IfOk result (λ j. IsShownBy (judged_as asked judged.entry.image.now judged.entry.required.now) j) }
-    ensures shown { IfOk result (λ j. IsShownBy (judged_as asked judged.entry.image.now judged.entry.required.now) j) }
     ensures run { IfOk result (λ j. IsRunFor (judged_as asked judged.entry.image.now judged.entry.required.now)
         asked.is_thorough (has_work judged.entry.required.now) j) }
 {
@@ -189,7 +188,6 @@ fn judged_as_asked<X: Threads + Sync, C: Clock, E: Write>(
 ) -> Result<CaseJudgement, CaseFault>
     ensures right { IfOk result (λ j. j.kind ≡ VerdictKind.Right
         → IsRightAsAsked asked.explored (seeds_of asked) judged.entry.image.now judged.entry.required.now) }
-    ensures shown { IfOk result (λ j. IsShownBy (judged_as asked judged.entry.image.now judged.entry.required.now) j) }
     ensures shown { IfOk result (λ j. IsShownBy (judged_as asked judged.entry.image.now judged.entry.required.now) j) }
     ensures run { IfOk result (λ j. IsRunFor (judged_as asked judged.entry.image.now judged.entry.required.now)
         asked.is_thorough false j) }

@@ -1,6 +1,6 @@
 use Rattle.std.proofs.Common.{ap}
 use Rattle.judgements.specs.Shown.{judged_as, limits_of}
-use Rattle.judgements.proofs.Known.{by_seeds_alone}
+use Rattle.judgements.proofs.WhatWasRun.{by_seeds_alone}
 use Rattle.judgements.proofs.by_case.judged_as_asked.Goals as goal
 
 pub returns-in_ok-judged_by_seeds-in-None-clause-shown : goal.returns-in_ok-judged_by_seeds-in-None-clause-shown

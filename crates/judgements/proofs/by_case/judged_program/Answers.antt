@@ -1,6 +1,6 @@
 use Rattle.judgements.specs.Known.{has_work}
 use Rattle.judgements.specs.Shown.{judged_as}
-use Rattle.judgements.proofs.Known.{by_rule}
+use Rattle.judgements.proofs.WhatWasRun.{by_rule}
 use Rattle.judgements.proofs.by_case.judged_program.Goals as goal
 
 pub returns-in-Some-clause-run : goal.returns-in-Some-clause-run

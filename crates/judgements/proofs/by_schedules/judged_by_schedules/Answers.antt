@@ -1,6 +1,6 @@
 use Rattle.std.proofs.Common.{◌∙◌, sym, refl, Some, false}
 use Rattle.judgements.specs.Shown.{judged_within}
-use Rattle.judgements.proofs.Known.{by_both, by_search_alone}
+use Rattle.judgements.proofs.WhatWasRun.{by_both, by_search_alone}
 use Rattle.judgements.proofs.by_schedules.judged_by_schedules.Goals as goal
 
 pub returns-then-is_not_decided-clause-shown : goal.returns-then-is_not_decided-clause-shown

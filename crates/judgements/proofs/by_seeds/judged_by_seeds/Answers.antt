@@ -1,6 +1,6 @@
 use Rattle.judgements.specs.Cases.{seeds_of}
 use Rattle.judgements.specs.Shown.{judged_within}
-use Rattle.judgements.proofs.Known.{runs_alike}
+use Rattle.judgements.proofs.WhatWasRun.{runs_alike}
 use Rattle.judgements.proofs.by_seeds.judged_by_seeds.Goals as goal
 
 pub returns-clause-shown : goal.returns-clause-shown

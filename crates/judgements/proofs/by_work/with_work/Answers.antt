@@ -2,7 +2,7 @@ use Rattle.std.proofs.Common.{◌≡◌, ◌∙◌, ap, sym, Bool, false, true, 
 use Rattle.std.specs.Prelude.{not, ◌==◌}
 use Rattle.judgements.specs.Known.{comes_with_seeds, has_work}
 use Rattle.judgements.specs.Shown.{judged_as}
-use Rattle.judgements.proofs.Known.{by_all_work, by_work, without_work}
+use Rattle.judgements.proofs.WhatWasRun.{by_all_work, by_work, without_work}
 use Rattle.judgements.proofs.Shown.{left_by_all, same_seeds}
 use Rattle.judgements.proofs.by_work.with_work.Goals as goal
 

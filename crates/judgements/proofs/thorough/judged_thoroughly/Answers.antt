@@ -1,6 +1,6 @@
 use Rattle.std.proofs.Common.{◌∙◌, sym, refl, Some, true}
 use Rattle.judgements.specs.Shown.{judged_within}
-use Rattle.judgements.proofs.Known.{by_both, by_search_after, by_seeds_before}
+use Rattle.judgements.proofs.WhatWasRun.{by_both, by_search_after, by_seeds_before}
 use Rattle.judgements.proofs.thorough.judged_thoroughly.Goals as goal
 
 pub returns-then-not-is_open-clause-shown : goal.returns-then-not-is_open-clause-shown
