@@ -4,5 +4,6 @@ mod Flaws
 mod Statuses
 mod Right
 mod Shown
+mod WhatWasRun
 mod ReadCases
 mod Pushed

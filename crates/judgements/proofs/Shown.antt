@@ -1,5 +1,5 @@
 -- What decides a verdict by seeds, where it is called not decided in place of right.
-use Rattle.std.proofs.Common.{◌≡◌, ℕ, Bool, true, false, List, Option, Some, None, inr, refl}
+use Rattle.std.proofs.Common.{◌≡◌, ℕ, Bool, true, false, List, Option, Some, None, inl, inr, refl, sym, ap, ◌∙◌}
 use Rattle.std.specs.Prelude.{IsTrue, if◌then◌else◌}
 use Rattle.seed_outcomes.specs.SeedVerdictsTypes.RunFlaw.{RunFlaw}
 use Rattle.seed_outcomes.specs.SeedVerdictsTypes.RunFlaw.TheVariants as run_flaw
@@ -7,11 +7,13 @@ use Rattle.schedule_makers.specs.declared.made.MadeEnd.{MadeEnd}
 use Rattle.schedule_makers.specs.declared.made.MadeEnd.TheVariants as made_end
 use Rattle.seed_outcomes.specs.SpaceEndsTypes.SpaceEnd.{SpaceEnd}
 use Rattle.judgements.specs.Flaws.{kind_of_run, kind_of_work, kind_of_end}
+use Rattle.judgements.specs.Known.{is_open, is_by_all_runs, comes_with_seeds}
 use Rattle.judgements.specs.Shown.{JudgedAs, IsLeftOpen, IsShownFor}
 use Rattle.judgements.specs.declared.case_judgements.Reason.{Reason}
 use Rattle.judgements.specs.declared.case_judgements.Reason.TheVariants as reason
 use Rattle.judgements.specs.declared.end_flaws.EndFlaw.{EndFlaw}
 use Rattle.judgements.specs.declared.end_flaws.EndFlaw.TheVariants as flaw
+use Rattle.judgements.specs.declared.verdict_kinds.VerdictKind.{VerdictKind}
 use Rattle.judgements.specs.declared.verdict_kinds.VerdictKind.TheVariants as verdict
 
 -- no flaw is right
@@ -66,3 +68,61 @@ pub is_unshown : (complete : Bool) (unshown : Option ℕ) (claim : ℕ)
     → (if complete then unshown else None) ≡ Some claim → unshown ≡ Some claim
 is_unshown true unshown claim e = e
 is_unshown false unshown claim e = absurd cc
+
+-- and no flaw leaves anything open
+
+run_is_shut : (f : RunFlaw) → is_open (kind_of_run f) ≡ true → ⊥
+run_is_shut run_flaw.Trap e = cc
+run_is_shut run_flaw.Deadlock e = cc
+run_is_shut (run_flaw.Missed expectation) e = cc
+run_is_shut (run_flaw.Broken taken claim) e = cc
+run_is_shut run_flaw.OutOfSteps e = cc
+
+work_is_shut : (end : MadeEnd) → is_open (kind_of_work end) ≡ true → ⊥
+work_is_shut made_end.NobodyRuns e = cc
+work_is_shut made_end.Standstill e = cc
+work_is_shut made_end.OutOfSteps e = cc
+
+end_is_shut : (f : EndFlaw) → is_open (kind_of_end f) ≡ true → ⊥
+end_is_shut flaw.Trap e = cc
+end_is_shut flaw.Deadlock e = cc
+end_is_shut flaw.Wrong e = cc
+end_is_shut flaw.Broken e = cc
+end_is_shut flaw.Spinning e = cc
+
+-- so what is left open is by all that was looked at, or by what no run shows
+pub left_by_all : (p : JudgedAs) (ends : List SpaceEnd) (kind : VerdictKind) (why : Reason) → is_open kind ≡ true
+    → IsShownFor p ends kind why → is_by_all_runs why ≡ true
+left_by_all p ends kind reason.Looked e h = refl
+left_by_all p ends kind (reason.Run run) e h = absurd (run_is_shut run.flaw (ap is_open (sym h.verdict) ∙ e))
+left_by_all p ends kind (reason.End place) e h = absurd (end_is_shut h.flaw (ap is_open (sym h.verdict) ∙ e))
+left_by_all p ends kind (reason.NoSchedule claim) e h =
+    let shut : false ≡ true = ap is_open (sym h.verdict) ∙ e in absurd cc
+left_by_all p ends kind (reason.NoRun claim) e h = refl
+left_by_all p ends kind reason.NoRunCan e h = refl
+left_by_all p ends kind (reason.Rule rule) e h =
+    let shut : false ≡ true = ap is_open (sym h.verdict) ∙ e in absurd cc
+left_by_all p ends kind (reason.Work missed) e h =
+    absurd (work_is_shut missed.end (ap is_open (sym h.verdict) ∙ e))
+left_by_all p ends kind (reason.Absent number fault) e h = absurd h
+left_by_all p ends kind (reason.Lacking name) e h = absurd h
+left_by_all p ends kind (reason.NotGiven number) e h = absurd h
+
+-- and with what is not left open come the same seeds, whether lines ask who does the work or not
+pub same_seeds : (p : JudgedAs) (ends : List SpaceEnd) (kind : VerdictKind) (why : Reason) (works : Bool)
+    → is_open kind ≡ false → IsShownFor p ends kind why → (first : Bool)
+    → comes_with_seeds first false kind why ≡ comes_with_seeds first works kind why
+same_seeds p ends kind reason.Looked works e (inl right) first =
+    let wide : true ≡ false = ap is_open (sym right) ∙ e in absurd cc
+same_seeds p ends kind reason.Looked works e (inr left) first =
+    let wide : true ≡ false = ap is_open (sym left.0) ∙ e in absurd cc
+same_seeds p ends kind (reason.Run run) works e h first = refl
+same_seeds p ends kind (reason.End place) works e h first = refl
+same_seeds p ends kind (reason.NoSchedule claim) works e h first = refl
+same_seeds p ends kind (reason.NoRun claim) works e h first = refl
+same_seeds p ends kind reason.NoRunCan works e h first = refl
+same_seeds p ends kind (reason.Rule rule) works e h first = refl
+same_seeds p ends kind (reason.Work missed) works e h first = refl
+same_seeds p ends kind (reason.Absent number fault) works e h first = refl
+same_seeds p ends kind (reason.Lacking name) works e h first = refl
+same_seeds p ends kind (reason.NotGiven number) works e h first = refl

@@ -1,5 +1,5 @@
 -- What ends and runs show against a submission.
-use Rattle.std.specs.Prelude.{◌≡◌, ℕ, ◌&&◌, not, Bool, true, false, List, Some, is_some, slice_get}
+use Rattle.std.specs.Prelude.{◌≡◌, ℕ, ◌<◌, ◌&&◌, not, Bool, true, false, List, Some, is_some, slice_get}
 use Rattle.end_kinds.specs.declared.kinds.EndKind.{EndKind}
 use Rattle.end_kinds.specs.declared.kinds.EndKind.TheVariants as kind
 use Rattle.schedule_makers.specs.declared.made.MadeEnd.{MadeEnd}
@@ -82,8 +82,22 @@ NoneShows ends f = (k : ℕ) (end : SpaceEnd) → slice_get ends k ≡ Some end 
 abbrev pub ShowNothing : List SpaceEnd → Type 0
 ShowNothing ends = (f : EndFlaw) → NoneShows ends f
 
--- The end at this place of a list shows a flaw.
-pub record ShowsAt (ends : List SpaceEnd) (f : EndFlaw) (place : ℕ) : Type 0 where
+-- The end at this place of a list shows a flaw, and none before it does.
+pub record IsFirstToShow (ends : List SpaceEnd) (f : EndFlaw) (place : ℕ) : Type 0 where
   pub end : SpaceEnd
   pub there : slice_get ends place ≡ Some end
-  pub shows : shows f end ≡ true
+  pub is_shown : shows f end ≡ true
+  pub before : (k : ℕ) (other : SpaceEnd) → k < place → slice_get ends k ≡ Some other → shows f other ≡ false
+
+-- the flaws in their order, the worst first: a trap, a deadlock, what is not as expected, a broken claim, a loop
+abbrev pub flaw_rank : EndFlaw → ℕ
+flaw_rank flaw.Trap = 0
+flaw_rank flaw.Deadlock = 1
+flaw_rank flaw.Wrong = 2
+flaw_rank flaw.Broken = 3
+flaw_rank flaw.Spinning = 4
+
+-- This is the worst flaw that any end of a list shows, and the end at this place is the first that shows it.
+pub record IsWorstFlaw (ends : List SpaceEnd) (f : EndFlaw) (place : ℕ) : Type 0 where
+  pub first : IsFirstToShow ends f place
+  pub worst : (worse : EndFlaw) → flaw_rank worse < flaw_rank f → NoneShows ends worse

@@ -5,6 +5,7 @@ pub mod Right
 pub mod Flaws
 pub mod Missed
 pub mod Statuses
+pub mod Known
 pub mod Shown
 pub mod Verdicts
 -- Of crates below, passed on to callers.

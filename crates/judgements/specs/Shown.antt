@@ -1,5 +1,5 @@
 -- What shows a verdict.
-use Rattle.std.specs.Prelude.{◌≡◌, ◌⊎◌, ◌↔◌, ℕ, List, [], Option, Some, None, Ok, Err, not, Bool, IsTrue, IsFalse, IsSome, if◌then◌else◌}
+use Rattle.std.specs.Prelude.{◌≡◌, ◌⊎◌, ◌↔◌, ℕ, List, [], Option, Some, None, Ok, Err, not, Bool, IsTrue, IsFalse, IsSome, is_some, if◌then◌else◌, ◌||◌}
 use Rattle.std.specs.List.{position}
 use Rattle.image_file.specs.ImageValue.{ImageValue}
 use Rattle.processor.specs.declared.steps.Step.{Step}
@@ -30,7 +30,8 @@ use Rattle.seed_work.specs.SeedWork.{IsWorkJudged}
 use Rattle.seed_work.specs.declared.missed_work.MissedWork.{MissedWork}
 use Rattle.case_cells.specs.NamedWords.{name_lacking}
 use Rattle.judgements.specs.Cases.{program_by, said_by, seeds_of, SpeaksOfOthersIn}
-use Rattle.judgements.specs.Flaws.{kind_of_run, kind_of_work, kind_of_end, ShowNothing, ShowsAt}
+use Rattle.judgements.specs.Known.{known_by, comes_with_search, comes_with_seeds, AreSeedsKnown, HasDecided, IsKnownBySearch, has_work}
+use Rattle.judgements.specs.Flaws.{kind_of_run, kind_of_work, kind_of_end, ShowNothing, IsWorstFlaw}
 use Rattle.judgements.specs.Right.{IsRightCase}
 use Rattle.judgements.specs.Statuses.{IsAsBadAsKind}
 use Rattle.judgements.specs.declared.cases.Case.{Case}
@@ -40,6 +41,7 @@ use Rattle.judgements.specs.declared.case_judgements.Reason.{Reason}
 use Rattle.judgements.specs.declared.case_judgements.Reason.TheVariants as reason
 use Rattle.judgements.specs.declared.case_judgements.ShownRun.{ShownRun}
 use Rattle.judgements.specs.declared.end_flaws.EndFlaw.{EndFlaw}
+use Rattle.judgements.specs.declared.knowledge.Known.{Known}
 use Rattle.judgements.specs.declared.verdict_kinds.VerdictKind.{VerdictKind}
 use Rattle.judgements.specs.declared.verdict_kinds.VerdictKind.TheVariants as verdict
 
@@ -89,14 +91,15 @@ abbrev pub IsFound : Option SearchLimits → ImageValue → Requirements → Exp
 IsFound None image required found = ⊥
 IsFound (Some limits) image required found = IsFoundWithin limits image required found
 
--- An end that a search found shows a flaw, and the verdict is that of this flaw.
+-- An end that a search found is the first to show the worst flaw that any of its ends shows, and the verdict is that of this
+-- flaw.
 pub record IsShownByEnd (limits : Option SearchLimits) (image : ImageValue) (required : Requirements)
     (ends : List SpaceEnd) (kind : VerdictKind) (place : ℕ) : Type 0 where
   pub found : Explored
   pub search : IsFound limits image required found
   pub listed : found.ends.items ≡ ends
   pub flaw : EndFlaw
-  pub end : ShowsAt ends flaw place
+  pub first : IsWorstFlaw ends flaw place
   pub verdict : kind ≡ kind_of_end flaw
 
 -- A complete search found no world that shows a claim, which has to hold of one at least.
@@ -176,6 +179,38 @@ judged_within explored asked image required =
 abbrev pub judged_as : AskedJudging → ImageValue → Requirements → JudgedAs
 judged_as asked image required = judged_within asked.explored asked image required
 
+-- what is known of a search: that one was made within these limits, by which the verdict is decided, if it comes with one; and
+-- else that none was
+abbrev pub IsSearchKnown : Bool → JudgedAs → List SpaceEnd → VerdictKind → Reason → Option Explored → Type 0
+IsSearchKnown comes p ends kind why None = IsFalse comes
+IsSearchKnown comes p ends kind why (Some found) =
+    IsTrue comes × IsFound p.limits p.image p.required found × HasDecided found ends kind why
+
+-- whether the seeds run before a search of a program that is judged so, or in its place
+abbrev pub begins_with_seeds : JudgedAs → Bool → Bool
+begins_with_seeds p thorough = not (is_some p.limits) || thorough
+
+-- What is known of a program says what was run for the verdict: which search of it, and how many seeds. They come before the
+-- search where it is `thorough`, and show who does the work where that `works`.
+pub record IsWhatWasRun (p : JudgedAs) (thorough works : Bool) (known : Known) (ends : List SpaceEnd) (kind : VerdictKind)
+    (why : Reason) : Type 0 where
+  pub search : Option Explored
+  pub tried : Option ℕ
+  pub said : known ≡ known_by search tried
+  pub searched : IsSearchKnown (comes_with_search (is_some p.limits) thorough why) p ends kind why search
+  pub seeds : AreSeedsKnown (comes_with_seeds (begins_with_seeds p thorough) works kind why) p.image p.required p.seeds why
+      tried
+
+abbrev pub IsRunFor : JudgedAs → Bool → Bool → CaseJudgement → Type 0
+IsRunFor p thorough works j = IsWhatWasRun p thorough works j.known j.ends.items j.kind j.reason
+
+-- What is known is what a search within these limits came to.
+pub record IsOfSearch (limits : Option SearchLimits) (image : ImageValue) (required : Requirements) (j : CaseJudgement)
+    : Type 0 where
+  pub found : Explored
+  pub search : IsFound limits image required found
+  pub by_it : IsKnownBySearch found j
+
 abbrev pub IsShownBy : JudgedAs → CaseJudgement → Type 0
 IsShownBy p j = IsShownFor p j.ends.items j.kind j.reason
 
@@ -195,6 +230,7 @@ pub record IsReadCase (asked : AskedJudging) (image : ImageValue) (text : List �
   pub required : Requirements
   pub said : said_by case (program_by image text case) text ≡ Ok (requirements_seen required)
   pub shown : IsShownBy (judged_as asked (program_by image text case) required) j
+  pub run : IsRunFor (judged_as asked (program_by image text case) required) asked.is_thorough (has_work required) j
 
 -- The case speaks of something that the submission lacks: nothing is known against the submission.
 pub record IsAbsent (image : ImageValue) (text : List ℕ) (case : Case) (j : CaseJudgement) : Type 0 where
@@ -203,6 +239,7 @@ pub record IsAbsent (image : ImageValue) (text : List ℕ) (case : Case) (j : Ca
   pub reason : j.reason ≡ reason.Absent number fault
   pub said : said_by case (program_by image text case) text ≡ Err (file.Line number fault)
   pub kind : j.kind ≡ verdict.NotJudged
+  pub unrun : j.known ≡ known_by None None
 
 -- what a submission is that lacks a name of a case's words: refused, where the names are asked for
 abbrev pub kind_without_name : Bool → VerdictKind
@@ -214,6 +251,7 @@ pub record IsLacking (asked : AskedJudging) (text : List ℕ) (case : Case) (j :
   pub reason : j.reason ≡ reason.Lacking name
   pub first : name_lacking asked.needs_names case.given.items text ≡ Some name
   pub kind : j.kind ≡ kind_without_name asked.needs_names
+  pub unrun : j.known ≡ known_by None None
 
 -- A line of the case speaks of a word that the case does not give, or that stands elsewhere in the submission: nothing is
 -- known against the program that the case makes of it.
@@ -222,6 +260,7 @@ pub record IsNotGivenBy (image : ImageValue) (text : List ℕ) (case : Case) (re
   pub number : ℕ
   pub reason : j.reason ≡ reason.NotGiven number
   pub kind : j.kind ≡ verdict.NotJudged
+  pub unrun : j.known ≡ known_by None None
   pub other : SpeaksOfOthersIn image text case case.cells required
 
 -- The same of a submission of this image.

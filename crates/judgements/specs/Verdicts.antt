@@ -1,12 +1,15 @@
 -- What is known of a submission by all cases.
-use Rattle.std.specs.Prelude.{◌≡◌, ◌<◌, ◌≤◌, ℕ, List, Some, length, slice_get}
+use Rattle.std.specs.Prelude.{◌≡◌, ◌<◌, ◌≤◌, ℕ, true, List, [], ◌∷◌, Option, Some, None, length, slice_get, if◌then◌else◌}
 use Rattle.image_file.specs.ImageValue.{ImageValue}
 use Rattle.judgements.specs.Severity.{severity_of}
+use Rattle.judgements.specs.Known.{is_right_kind, known_by, together}
 use Rattle.judgements.specs.Right.{IsRightCase}
 use Rattle.judgements.specs.Shown.{IsCaseJudged}
 use Rattle.judgements.specs.declared.cases.Case.{Case}
 use Rattle.judgements.specs.declared.cases.AskedJudging.{AskedJudging}
 use Rattle.judgements.specs.declared.case_judgements.CaseJudgement.{CaseJudgement}
+use Rattle.judgements.specs.declared.knowledge.Known.{Known}
+use Rattle.judgements.specs.declared.submissions.SubmissionJudgement.{SubmissionJudgement}
 use Rattle.judgements.specs.declared.verdict_kinds.VerdictKind.{VerdictKind}
 
 -- the submission is judged by each of the first so many cases
@@ -39,3 +42,22 @@ pub record IsWorst (js : List CaseJudgement) (place : ℕ) : Type 0 where
 -- this is what a submission is by the judgement at a place
 abbrev pub IsKindAt : List CaseJudgement → ℕ → VerdictKind → Type 0
 IsKindAt js place kind = (j : CaseJudgement) × (slice_get js place ≡ Some j) × (kind ≡ j.kind)
+
+-- what is known by no case: there is none of which not every schedule was looked at
+abbrev pub of_no_case : Known
+of_no_case = record { worlds = None; is_every = true; bound = None; seeds = None }
+
+-- what is known by some first cases and these together
+abbrev pub known_of_all : Known → List CaseJudgement → Known
+known_of_all known [] = known
+known_of_all known (j ∷ js) = known_of_all (together known j.known) js
+
+abbrev pub known_of_case : Option CaseJudgement → Known
+known_of_case None = known_by None None
+known_of_case (Some j) = j.known
+
+-- what is known of a submission: by all cases together, if it is right, and else by the one that decides
+abbrev pub known_in : SubmissionJudgement → Known
+known_in s =
+    if is_right_kind s.kind then known_of_all of_no_case s.cases.items
+    else known_of_case (slice_get s.cases.items s.worst)

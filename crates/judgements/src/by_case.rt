@@ -1,12 +1,13 @@
 //! What is known of a submission by one case.
 
-ghost use Rattle.std.specs.Prelude.{◌≡◌, ◌⊎◌, not, IsTrue, IfOk, IfNone};
+ghost use Rattle.std.specs.Prelude.{◌≡◌, ◌⊎◌, not, false, IsTrue, IfOk, IfNone, None};
 ghost use Rattle.std.specs.List.{position};
 ghost use Rattle.program_rules.specs.Keeping.{is_kept};
 ghost use Rattle.expectation_files.specs.Judged.{are_rules_kept};
 ghost use Rattle.judgements.specs.Cases.{seeds_of, SpeaksOfGivenIn};
+ghost use Rattle.judgements.specs.Known.{has_work, known_by};
 ghost use Rattle.judgements.specs.Right.{IsRightAsAsked, IsWorkDone};
-ghost use Rattle.judgements.specs.Shown.{IsCaseJudged, IsCaseKnown, IsShownBy, IsNotGivenBy, judged_as, kind_without_name};
+ghost use Rattle.judgements.specs.Shown.{IsCaseJudged, IsCaseKnown, IsRunFor, IsShownBy, IsNotGivenBy, judged_as, kind_without_name};
 
 use crate::by_schedules::{JudgedProgram, judged_by_schedules};
 use crate::by_seeds::judged_by_seeds;
@@ -77,6 +78,7 @@ fn known_by_case<X: Threads + Sync, C: Clock, E: Write>(
 /// What is known of a submission that lacks the words of the name at this place.
 fn judged_without_name(alloc: Global, asked: AskedJudging, name: usize) -> CaseJudgement
     ensures kind { result.kind ≡ kind_without_name asked.needs_names }
+    ensures known { result.known ≡ known_by None None }
     ensures reason { result.reason ≡ Reason.Lacking name }
 {
     let reason = Reason::Lacking { name };
@@ -104,6 +106,10 @@ fn judged_by_lines<X: Threads + Sync, C: Clock, E: Write>(
         → IsWorkDone judged.entry.image.now judged.entry.required.now (seeds_of asked)) }
     ensures shown { IfOk result (λ j.
         IsShownBy (judged_as asked judged.entry.image.now judged.entry.required.now) j
+        ⊎ IsNotGivenBy judged.entry.image.now text.entry.now case.entry.now judged.entry.required.now j) }
+    ensures run { IfOk result (λ j.
+        IsRunFor (judged_as asked judged.entry.image.now judged.entry.required.now) asked.is_thorough
+        (has_work judged.entry.required.now) j
         ⊎ IsNotGivenBy judged.entry.image.now text.entry.now case.entry.now judged.entry.required.now j) }
 {
     if let Some(line) = line_not_given(alloc, case, judged.image, text, judged.required)? {
@@ -161,6 +167,8 @@ fn judged_program<X: Threads + Sync, C: Clock, E: Write>(
     ensures work { IfOk result (λ j. j.kind ≡ VerdictKind.Right
         → IsWorkDone judged.entry.image.now judged.entry.required.now (seeds_of asked)) }
     ensures shown { IfOk result (λ j. IsShownBy (judged_as asked judged.entry.image.now judged.entry.required.now) j) }
+    ensures run { IfOk result (λ j. IsRunFor (judged_as asked judged.entry.image.now judged.entry.required.now)
+        asked.is_thorough (has_work judged.entry.required.now) j) }
 {
     if let Some(rule) = broken_rule(judged) {
         let reason = Reason::Rule(rule);
@@ -181,6 +189,8 @@ fn judged_as_asked<X: Threads + Sync, C: Clock, E: Write>(
     ensures right { IfOk result (λ j. j.kind ≡ VerdictKind.Right
         → IsRightAsAsked asked.explored (seeds_of asked) judged.entry.image.now judged.entry.required.now) }
     ensures shown { IfOk result (λ j. IsShownBy (judged_as asked judged.entry.image.now judged.entry.required.now) j) }
+    ensures run { IfOk result (λ j. IsRunFor (judged_as asked judged.entry.image.now judged.entry.required.now)
+        asked.is_thorough false j) }
 {
     match asked.explored {
         Some(bounds) if asked.is_thorough => {

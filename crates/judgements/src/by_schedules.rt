@@ -1,8 +1,10 @@
 //! What every schedule says of a submission.
 
-ghost use Rattle.std.specs.Prelude.{◌≡◌, IsTrue, IfOk, Some, []};
+ghost use Rattle.std.specs.Prelude.{◌≡◌, ◌⊎◌, true, false, IsTrue, IfOk, None, Some, []};
+ghost use Rattle.judgements.specs.Known.{HasDecided, IsKnownBySearch, is_by_search, is_open, known_by};
 ghost use Rattle.judgements.specs.Right.{IsRightBySchedules};
 ghost use Rattle.judgements.specs.Shown.{JudgedAs, IsFound, IsLeftOpen, IsShownBy, IsShownFor, IsShownWithin, judged_within, limits_of};
+ghost use Rattle.judgements.specs.Shown.{IsOfSearch, IsRunFor};
 
 use crate::by_seeds::judged_by_seeds;
 use crate::case_judgements::{CaseJudgement, Reason};
@@ -54,6 +56,8 @@ pub(crate) fn judged_by_schedules<X: Threads + Sync, C: Clock, E: Write>(
         → IsRightBySchedules judged.entry.image.now judged.entry.required.now) }
     ensures shown { IfOk result (λ j. IsShownBy
         (judged_within (Some bounds) asked judged.entry.image.now judged.entry.required.now) j) }
+    ensures run { IfOk result (λ j. IsRunFor
+        (judged_within (Some bounds) asked judged.entry.image.now judged.entry.required.now) false false j) }
 {
     let searched = searched(alloc, bounds, judged, console)?;
     if searched.judgement.kind.is_not_decided() {
@@ -75,6 +79,8 @@ pub(crate) fn searched<C: Clock, E: Write>(
     ensures shown { IfOk result (λ s. IsShownWithin bounds judged.entry.image.now judged.entry.required.now s.judgement) }
     ensures left { IfOk result (λ s. s.judgement.kind ≡ VerdictKind.NotDecided
         → IsLeftOpen (limits_of (Some bounds)) judged.entry.image.now judged.entry.required.now) }
+    ensures known { IfOk result (λ s. IsOfSearch
+        (limits_of (Some bounds)) judged.entry.image.now judged.entry.required.now s.judgement) }
 {
     let search = search_of(bounds, judged);
     let found = explore_program(alloc, judged.image, &search, console)?;
@@ -106,6 +112,7 @@ fn judged_by_search(alloc: Global, found: Explored<'_>) -> CaseJudgement
     ensures shown { (p : JudgedAs) → IsFound p.limits p.image p.required found.entry → IsShownBy p result }
     ensures left { (p : JudgedAs) → IsFound p.limits p.image p.required found.entry
         → result.kind ≡ VerdictKind.NotDecided → IsLeftOpen p.limits p.image p.required }
+    ensures known { IsKnownBySearch found.entry result }
 {
     let known = known_of(&found);
     let status = found.status();
@@ -123,6 +130,8 @@ fn decided_by(found: &Explored<'_>) -> (VerdictKind, Reason)
         → IsShownFor p found.now.ends.items result.0 result.1 }
     ensures left { (p : JudgedAs) → IsFound p.limits p.image p.required found.now
         → result.0 ≡ VerdictKind.NotDecided → IsLeftOpen p.limits p.image p.required }
+    ensures searched { is_by_search result.1 ≡ true }
+    ensures decided { HasDecided found.now found.now.ends.items result.0 result.1 }
 {
     if let Some(flawed) = first_end_flaw(&found.ends) {
         return (flawed.flaw.kind(), Reason::End(flawed.end));
@@ -137,7 +146,9 @@ fn decided_by(found: &Explored<'_>) -> (VerdictKind, Reason)
 }
 
 /// What a search found.
-fn known_of(found: &Explored<'_>) -> Known {
+fn known_of(found: &Explored<'_>) -> Known
+    ensures { result ≡ known_by (Some found.now) None }
+{
     Known {
         worlds: Some(found.worlds()),
         is_every: found.is_complete,
@@ -151,6 +162,10 @@ pub(crate) fn undecided(sampled: CaseJudgement, searched: SearchJudgement) -> Ca
     ensures right { ¬ (result.kind ≡ VerdictKind.Right) }
     ensures shown { (p : JudgedAs) → IsLeftOpen p.limits p.image p.required → IsShownBy p sampled
         → IsShownBy p result }
+    ensures known { result.known ≡ record searched.judgement.known { seeds = sampled.known.seeds } }
+    ensures kept { is_open sampled.kind ≡ false → result.reason ≡ sampled.reason }
+    ensures left { is_open sampled.kind ≡ true → (result.kind ≡ VerdictKind.NotDecided)
+        × ((result.reason ≡ Reason.Looked) ⊎ (result.reason ≡ sampled.reason)) }
 {
     let mut judgement = not_decided(sampled, searched.is_shown);
     judgement.known = Known {
@@ -168,6 +183,10 @@ fn not_decided(sampled: CaseJudgement, is_shown: bool) -> CaseJudgement
     ensures right { ¬ (result.kind ≡ VerdictKind.Right) }
     ensures shown { (p : JudgedAs) → IsLeftOpen p.limits p.image p.required → IsShownBy p sampled
         → IsShownBy p result }
+    ensures known { result.known ≡ sampled.known }
+    ensures kept { is_open sampled.kind ≡ false → result.reason ≡ sampled.reason }
+    ensures left { is_open sampled.kind ≡ true → (result.kind ≡ VerdictKind.NotDecided)
+        × ((result.reason ≡ Reason.Looked) ⊎ (result.reason ≡ sampled.reason)) }
 {
     let is_answered = is_shown || is_of_runs_alone(&sampled.reason);
     let mut judgement = sampled;

@@ -1,9 +1,10 @@
 //! What random schedules say of a submission.
 
-ghost use Rattle.std.specs.Prelude.{◌≡◌, IfOk};
+ghost use Rattle.std.specs.Prelude.{◌≡◌, ◌<◌, ◌+◌, false, IfOk, None, Some};
 ghost use Rattle.seed_outcomes.specs.SeedVerdicts.Seeds.{AreJudged};
 ghost use Rattle.judgements.specs.Cases.{seeds_of};
 ghost use Rattle.judgements.specs.Flaws.{kind_of_run};
+ghost use Rattle.judgements.specs.Known.{IsKnownByRuns, is_open, known_by};
 ghost use Rattle.judgements.specs.Right.{IsRightBySeeds};
 ghost use Rattle.judgements.specs.Shown.{EndsAsShown, IsShownWithoutSearch};
 
@@ -33,6 +34,14 @@ impl AskedJudging {
             most: self.most,
         }
     }
+
+    /// How many seeds were tried where this one is the last: they begin with 0.
+    pub(crate) fn tried_up_to(self, seed: u64) -> usize
+        requires { seed < self.seeds }
+        ensures { result ≡ seed + 1 }
+    {
+        seed as usize + 1
+    }
 }
 
 /// What random schedules say of a program of which this is required: by the first seed whose run is not right, what is wrong
@@ -48,6 +57,7 @@ pub(crate) fn judged_by_seeds<X: Threads + Sync>(
     ensures right { IfOk result (λ j. j.kind ≡ VerdictKind.Right
         → IsRightBySeeds image.now required.now (seeds_of asked)) }
     ensures shown { IfOk result (λ j. IsShownWithoutSearch asked image.now required.now j) }
+    ensures known { IfOk result (λ j. IsKnownByRuns image.now required.now (seeds_of asked) j) }
 {
     let judgement = judged_by_runs(rt, alloc, asked, image, required)?;
     if !asked.counts_all {
@@ -68,6 +78,7 @@ fn judged_by_runs<X: Threads + Sync>(
     ensures right { IfOk result (λ j. j.kind ≡ VerdictKind.Right
         → IsRightBySeeds image.now required.now (seeds_of asked)) }
     ensures shown { IfOk result (λ j. IsShownWithoutSearch asked image.now required.now j) }
+    ensures known { IfOk result (λ j. IsKnownByRuns image.now required.now (seeds_of asked) j) }
 {
     match flaw_of(rt, alloc, asked, image, required)? {
         Some(found) => judged_by_flaw(alloc, asked, image, required, found),
@@ -104,6 +115,7 @@ fn judged_flawless(
     ensures right { IfOk result (λ j. j.kind ≡ VerdictKind.Right
         → IsRightBySeeds image.now required.now (seeds_of asked)) }
     ensures shown { IfOk result (λ j. IsShownWithoutSearch asked image.now required.now j) }
+    ensures known { IfOk result (λ j. IsKnownByRuns image.now required.now (seeds_of asked) j) }
 {
     let known = known_of(asked.seeds);
     if let Some(claim) = unshown_by_seeds(alloc, image, required.claims(), asked.sampled())? {
@@ -118,7 +130,9 @@ fn judged_flawless(
 }
 
 /// So many seeds were tried.
-fn known_of(seeds: usize) -> Known {
+fn known_of(seeds: usize) -> Known
+    ensures { result ≡ known_by None (Some seeds) }
+{
     Known {
         seeds: Some(seeds),
         ..Known::NOTHING
@@ -164,7 +178,8 @@ fn flaw_on<X: Threads + Sync, const S: usize>(
 
 /// What a submission is with such a run.
 fn kind_of(flaw: RunFlaw) -> VerdictKind
-    ensures { result ≡ kind_of_run flaw }
+    ensures kind { result ≡ kind_of_run flaw }
+    ensures decided { is_open result ≡ false }
 {
     match flaw {
         RunFlaw::Trap => VerdictKind::Trap,
@@ -185,11 +200,11 @@ fn judged_by_flaw(
     requires { AreJudged image.now required.now.ends.items required.now.claims.items (seeds_of asked) (Some found) }
     ensures right { IfOk result (λ j. ¬ (j.kind ≡ VerdictKind.Right)) }
     ensures shown { IfOk result (λ j. IsShownWithoutSearch asked image.now required.now j) }
+    ensures known { IfOk result (λ j. IsKnownByRuns image.now required.now (seeds_of asked) j) }
 {
-    let run = by_room!(image, shown_run(alloc, asked, image, required, found))?;
+    let run = run_shown(alloc, asked, image, required, found)?;
     let status = run.end.judgement.status();
-    // (the seeds begin with 0)
-    let tried = (found.seed as usize).saturating_add(1);
+    let tried = asked.tried_up_to(found.seed);
     let kind = kind_of(found.flaw);
     let mut judgement = CaseJudgement::plain(alloc, kind, known_of(tried), Reason::Run(run));
     judgement.status = status;
@@ -197,6 +212,21 @@ fn judged_by_flaw(
 }
 
 /// The run of a seed with this flaw, by its end.
+fn run_shown(
+    alloc: Global,
+    asked: AskedJudging,
+    image: &Image,
+    required: &Requirements,
+    found: SeedFlaw,
+) -> Result<ShownRun, AllocError>
+    ensures seed { IfOk result (λ run. run.seed ≡ found.seed) }
+    ensures flaw { IfOk result (λ run. run.flaw ≡ found.flaw) }
+    ensures end { IfOk result (λ run. EndsAsShown image.now required.now asked.most run) }
+{
+    by_room!(image, shown_run(alloc, asked, image, required, found))
+}
+
+/// The same on a machine with room for `S` streams a processor.
 fn shown_run<const S: usize>(
     alloc: Global,
     asked: AskedJudging,

@@ -1,11 +1,12 @@
 //! What the runs of seeds say of who does the work in a program.
 
-ghost use Rattle.std.specs.Prelude.{◌≡◌, ◌<◌, length, IfOk};
+ghost use Rattle.std.specs.Prelude.{◌≡◌, ◌<◌, false, length, IfOk, Some};
 ghost use Rattle.seed_work.specs.SeedWork.{IsWorkJudged};
 ghost use Rattle.judgements.specs.Cases.{seeds_of};
 ghost use Rattle.judgements.specs.Flaws.{kind_of_work};
+ghost use Rattle.judgements.specs.Known.{has_work};
 ghost use Rattle.judgements.specs.Right.{IsWorkDone};
-ghost use Rattle.judgements.specs.Shown.{IsShownBy, judged_as};
+ghost use Rattle.judgements.specs.Shown.{IsRunFor, IsShownBy, judged_as};
 
 use crate::by_schedules::JudgedProgram;
 use crate::case_judgements::{CaseJudgement, Reason};
@@ -36,6 +37,11 @@ pub(crate) fn with_work<X: Threads + Sync>(
     ensures shown { IfOk result (λ j.
         IsShownBy (judged_as asked judged.entry.image.now judged.entry.required.now) judgement
         → IsShownBy (judged_as asked judged.entry.image.now judged.entry.required.now) j) }
+    ensures run { IfOk result (λ j.
+        IsShownBy (judged_as asked judged.entry.image.now judged.entry.required.now) judgement
+        → IsRunFor (judged_as asked judged.entry.image.now judged.entry.required.now) asked.is_thorough false judgement
+        → IsRunFor (judged_as asked judged.entry.image.now judged.entry.required.now) asked.is_thorough
+        (has_work judged.entry.required.now) j) }
 {
     if judged.required.work().is_empty() {
         return Ok(judgement);
@@ -44,8 +50,11 @@ pub(crate) fn with_work<X: Threads + Sync>(
         return Ok(judgement);
     }
     match missed_work(rt, alloc, asked, judged.image, judged.required.work())? {
-        Some(missed) => Ok(judged_by_work(judgement, missed)),
-        None => Ok(with_seeds(judgement, asked.seeds)),
+        Some(missed) => {
+            let tried = asked.tried_up_to(missed.seed);
+            Ok(judged_by_work(judgement, missed, tried))
+        }
+        None => Ok(judgement.with_seeds(Some(asked.seeds))),
     }
 }
 
@@ -84,25 +93,13 @@ fn missed_on<X: Threads + Sync, const S: usize>(
     }
 }
 
-/// The same judgement, after so many seeds were tried.
-fn with_seeds(judgement: CaseJudgement, seeds: usize) -> CaseJudgement
-    ensures kind { result.kind ≡ judgement.kind }
-    ensures reason { result.reason ≡ judgement.reason }
-    ensures ends { result.ends ≡ judgement.ends }
-{
-    let mut judgement = judgement;
-    judgement.known.seeds = Some(seeds);
-    judgement
-}
-
-/// What is known of a program of which the run of a seed does not meet a line about who does the work.
-fn judged_by_work(judgement: CaseJudgement, missed: MissedWork) -> CaseJudgement
+/// What is known of a program of which the run of a seed, the last of so many, does not meet a line about who does the work.
+fn judged_by_work(judgement: CaseJudgement, missed: MissedWork, tried: usize) -> CaseJudgement
     ensures kind { result.kind ≡ kind_of_work missed.end }
     ensures wrong { ¬ (result.kind ≡ VerdictKind.Right) }
+    ensures known { result.known ≡ record judgement.known { seeds = Some tried } }
     ensures reason { result.reason ≡ Reason.Work missed }
 {
-    // (the seeds begin with 0)
-    let tried = (missed.seed as usize).saturating_add(1);
     let mut judgement = judgement;
     judgement.kind = kind_of(missed.end);
     judgement.known.seeds = Some(tried);

@@ -133,6 +133,7 @@ impl CaseJudgement {
         reason: Reason,
     ) -> CaseJudgement
         ensures kind { result.kind ≡ kind }
+        ensures known { result.known ≡ known }
         ensures reason { result.reason ≡ reason }
     {
         CaseJudgement {
@@ -148,6 +149,7 @@ impl CaseJudgement {
     /// The same judgement with a status that is as bad as what the submission is.
     pub(crate) fn with_status(self) -> CaseJudgement
         ensures kind { result.kind ≡ self.kind }
+        ensures known { result.known ≡ self.known }
         ensures reason { result.reason ≡ self.reason }
         ensures ends { result.ends ≡ self.ends }
         ensures status { IsAsBadAsKind result }
@@ -157,9 +159,23 @@ impl CaseJudgement {
         judgement
     }
 
+    /// The same judgement, where so many seeds were tried.
+    pub(crate) fn with_seeds(self, seeds: Option<usize>) -> CaseJudgement
+        ensures kind { result.kind ≡ self.kind }
+        ensures known { result.known ≡ record self.known { seeds = seeds } }
+        ensures reason { result.reason ≡ self.reason }
+        ensures ends { result.ends ≡ self.ends }
+    {
+        let mut judgement = self;
+        judgement.known.seeds = seeds;
+        judgement
+    }
+
     /// The same judgement with the outcomes of all seeds, and with the worst status over all of them.
     pub(crate) fn with_outcomes(self, outcomes: Vec<SeedOutcome>) -> CaseJudgement
         ensures kind { result.kind ≡ self.kind }
+        ensures known { result.known ≡ self.known }
+        ensures reason { result.reason ≡ self.reason }
         ensures shown { (p : JudgedAs) → IsShownBy p self → IsShownBy p result }
     {
         let mut judgement = self;

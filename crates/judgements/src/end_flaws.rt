@@ -2,7 +2,7 @@
 
 ghost use Rattle.std.specs.Prelude.{◌≡◌, MatchOption};
 ghost use Rattle.judgements.specs.Flaws.{kind_of_end, shows, is_deadlock, is_spinning, is_broken};
-ghost use Rattle.judgements.specs.Flaws.{NoneShows, ShowNothing, ShowsAt};
+ghost use Rattle.judgements.specs.Flaws.{NoneShows, ShowNothing, IsFirstToShow, IsWorstFlaw};
 
 use crate::verdict_kinds::VerdictKind;
 use end_kinds::EndKind;
@@ -61,9 +61,9 @@ pub(crate) struct FoundFlaw {
 
 /// The first of all flaws, in the order of their severity, that any of these ends shows, with the first such end; None if no
 /// end shows any.
-#[tactic(auto, using(crate::proofs::Flaws::none_shown))]
+#[tactic(auto, using(crate::proofs::Flaws::none_shown, crate::proofs::Flaws::worst_trap, crate::proofs::Flaws::worst_deadlock, crate::proofs::Flaws::worst_wrong, crate::proofs::Flaws::worst_broken, crate::proofs::Flaws::worst_spinning))]
 pub(crate) fn first_end_flaw(ends: &[SpaceEnd]) -> Option<FoundFlaw>
-    ensures { MatchOption result (ShowNothing ends.now) (λ f. ShowsAt ends.now f.flaw f.end) }
+    ensures { MatchOption result (ShowNothing ends.now) (λ f. IsWorstFlaw ends.now f.flaw f.end) }
 {
     if let Some(found) = found_of(ends, EndFlaw::Trap) {
         return Some(found);
@@ -85,7 +85,8 @@ pub(crate) fn first_end_flaw(ends: &[SpaceEnd]) -> Option<FoundFlaw>
 
 /// The first of these ends that shows a flaw.
 fn found_of(ends: &[SpaceEnd], flaw: EndFlaw) -> Option<FoundFlaw>
-    ensures { MatchOption result (NoneShows ends.now flaw) (λ f. ShowsAt ends.now f.flaw f.end) }
+    ensures { MatchOption result (NoneShows ends.now flaw)
+        (λ f. (f.flaw ≡ flaw) × IsFirstToShow ends.now flaw f.end) }
 {
     for end in 0..ends.len() {
         if flaw.is_of(&ends[end]) {

@@ -1,5 +1,8 @@
 //! What was looked at to come to a verdict.
 
+ghost use Rattle.std.specs.Prelude.{◌≡◌};
+ghost use Rattle.judgements.specs.Known.{sum_of, most_of, together};
+
 use program_searches::SearchBound;
 
 /// What was looked at to come to a verdict.
@@ -24,21 +27,36 @@ impl Known {
         seeds: None,
     };
 
-    /// What was looked at of two cases of which each is right.
-    pub(crate) fn with(self, other: Known) -> Known {
+    /// What was looked at of two cases of which each is right: the states of both, of every schedule only where each is, and
+    /// the seeds of the one that tried more.
+    pub(crate) fn with(self, other: Known) -> Known
+        ensures { result ≡ together self other }
+    {
         Known {
             worlds: sum_of(self.worlds, other.worlds),
-            is_every: other.is_every,
+            is_every: self.is_every && other.is_every,
             bound: None,
-            seeds: other.seeds,
+            seeds: most_of(self.seeds, other.seeds),
         }
     }
 }
 
 /// The sum of two numbers, which may be missing.
-fn sum_of(one: Option<usize>, other: Option<usize>) -> Option<usize> {
+fn sum_of(one: Option<usize>, other: Option<usize>) -> Option<usize>
+    ensures { result ≡ sum_of one other }
+{
     match (one, other) {
         (Some(one), Some(other)) => Some(one.saturating_add(other)),
+        (None, number) | (number, None) => number,
+    }
+}
+
+/// The greater of two numbers, which may be missing.
+fn most_of(one: Option<usize>, other: Option<usize>) -> Option<usize>
+    ensures { result ≡ most_of one other }
+{
+    match (one, other) {
+        (Some(one), Some(other)) => Some(one.max(other)),
         (None, number) | (number, None) => number,
     }
 }

@@ -4,7 +4,7 @@ ghost use Rattle.std.specs.Prelude.{◌≡◌, ◌<◌, length, IfOk};
 ghost use Rattle.program_searches.specs.Statuses.{worst};
 ghost use Rattle.judgements.specs.Severity.{severity_of};
 ghost use Rattle.judgements.specs.Statuses.{statuses_of};
-ghost use Rattle.judgements.specs.Verdicts.{AreCasesJudged, AreRightCases, IsWorst, IsKindAt};
+ghost use Rattle.judgements.specs.Verdicts.{AreCasesJudged, AreRightCases, IsWorst, IsKindAt, known_of_all, known_in, of_no_case};
 
 use crate::by_case::judged_by_case;
 use crate::case_judgements::CaseJudgement;
@@ -39,24 +39,31 @@ impl SubmissionJudgement {
     }
 
     /// What was looked at: of the case that decides, or of all together, where each is right.
-    pub fn known(&self) -> Known {
-        if self.kind == VerdictKind::Right {
-            return self.known_of_all();
+    pub fn known(&self) -> Known
+        ensures { result ≡ known_in self.now }
+    {
+        if self.kind.is_right() {
+            return known_of_all(&self.cases);
         }
-        match self.deciding() {
+        match self.cases.get(self.worst) {
             Some(case) => case.known,
             None => Known::NOTHING,
         }
     }
+}
 
-    /// What was looked at of all cases together.
-    fn known_of_all(&self) -> Known {
-        let mut known = Known::NOTHING;
-        for case in self.cases.iter() {
-            known = known.with(case.known);
-        }
-        known
+/// What was looked at of some cases together, of which each is right.
+fn known_of_all(cases: &[CaseJudgement]) -> Known
+    ensures { result ≡ known_of_all of_no_case cases.now }
+{
+    let mut known = Known {
+        is_every: true,
+        ..Known::NOTHING
+    };
+    for case in cases {
+        known = known.with(case.known);
     }
+    known
 }
 
 /// What is known of a submission by all cases: each is judged, and the most severe one decides, the first of several. It is

@@ -1,8 +1,10 @@
 //! What seeds, and then every schedule, say of a submission.
 
-ghost use Rattle.std.specs.Prelude.{◌≡◌, IfOk, Some, true};
+ghost use Rattle.std.specs.Prelude.{◌≡◌, IfOk, Some, true, false};
+ghost use Rattle.judgements.specs.Known.{is_open};
 ghost use Rattle.judgements.specs.Right.{IsRightBySchedules};
 ghost use Rattle.judgements.specs.Shown.{IsLeftOpen, IsShownBy, IsShownWithin, judged_within, limits_of};
+ghost use Rattle.judgements.specs.Shown.{IsOfSearch, IsRunFor};
 
 use crate::by_schedules::{JudgedProgram, SearchJudgement, searched, undecided};
 use crate::by_seeds::judged_by_seeds;
@@ -38,6 +40,8 @@ pub(crate) fn judged_thoroughly<X: Threads + Sync, C: Clock, E: Write>(
         → IsRightBySchedules judged.entry.image.now judged.entry.required.now) }
     ensures shown { IfOk result (λ j. IsShownBy
         (judged_within (Some bounds) asked judged.entry.image.now judged.entry.required.now) j) }
+    ensures run { IfOk result (λ j. IsRunFor
+        (judged_within (Some bounds) asked judged.entry.image.now judged.entry.required.now) true false j) }
 {
     let sampled = judged_by_seeds(rt, alloc, asked, judged.image, judged.required)?;
     if !is_open(sampled.kind) {
@@ -47,14 +51,13 @@ pub(crate) fn judged_thoroughly<X: Threads + Sync, C: Clock, E: Write>(
     if found.judgement.kind.is_not_decided() {
         return Ok(undecided(sampled, found));
     }
-    let mut judgement = found.judgement;
-    judgement.known.seeds = sampled.known.seeds;
-    Ok(judgement)
+    Ok(found.judgement.with_seeds(sampled.known.seeds))
 }
 
 /// Whether what seeds say leaves open what every schedule does.
 pub(crate) fn is_open(kind: VerdictKind) -> bool
-    ensures { kind ≡ VerdictKind.Right → result ≡ true }
+    ensures right { kind ≡ VerdictKind.Right → result ≡ true }
+    ensures is { result ≡ is_open kind }
 {
     match kind {
         VerdictKind::Right | VerdictKind::NotDecided => true,
@@ -81,6 +84,8 @@ fn searched_widely<C: Clock, E: Write>(
     ensures shown { IfOk result (λ s. IsShownWithin bounds judged.entry.image.now judged.entry.required.now s.judgement) }
     ensures left { IfOk result (λ s. s.judgement.kind ≡ VerdictKind.NotDecided
         → IsLeftOpen (limits_of (Some bounds)) judged.entry.image.now judged.entry.required.now) }
+    ensures known { IfOk result (λ s. IsOfSearch
+        (limits_of (Some bounds)) judged.entry.image.now judged.entry.required.now s.judgement) }
 {
     let most = bounds.megabytes.unwrap_or(USUAL_MEGABYTES);
     let mut megabytes = most.min(FIRST_MEGABYTES);

@@ -1,6 +1,7 @@
 //! What a submission is.
 
 ghost use Rattle.std.specs.Prelude.{◌≡◌, true};
+ghost use Rattle.judgements.specs.Known.{is_right_kind, is_undecided};
 ghost use Rattle.judgements.specs.Severity.{severity_of};
 ghost use Rattle.judgements.specs.Statuses.{status_of_kind};
 
@@ -32,10 +33,29 @@ pub enum VerdictKind {
 }
 
 impl VerdictKind {
+    /// Whether all that was looked at is as it is required.
+    pub(crate) fn is_right(self) -> bool
+        ensures { result ≡ is_right_kind self }
+    {
+        match self {
+            VerdictKind::Right => true,
+            VerdictKind::NotDecided
+            | VerdictKind::NotRead
+            | VerdictKind::SourceFault
+            | VerdictKind::Trap
+            | VerdictKind::Deadlock
+            | VerdictKind::Wrong
+            | VerdictKind::RanOutOfSteps
+            | VerdictKind::Spins
+            | VerdictKind::NotJudged => false,
+        }
+    }
+
     /// Whether it is not known what the submission is.
     pub(crate) fn is_not_decided(self) -> bool
         ensures only { result ≡ true → self ≡ VerdictKind.NotDecided }
         ensures is { self ≡ VerdictKind.NotDecided → result ≡ true }
+        ensures undecided { result ≡ is_undecided self }
     {
         match self {
             VerdictKind::NotDecided => true,

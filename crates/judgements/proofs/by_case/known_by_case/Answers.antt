@@ -13,6 +13,7 @@ returns-in-Some g c =
     ∙ c.in-Some.is in
     without_name c.args.asked c.args.submission.image.now text c.args.case.now c.in-Some.name
     c.judged_without_name.result lacks c.judged_without_name.ensures.reason c.judged_without_name.ensures.kind
+    c.judged_without_name.ensures.known
 
 pub returns-in-Ok : goal.returns-in-Ok
 returns-in-Ok g c =
@@ -20,4 +21,4 @@ returns-in-Ok g c =
     read_case c.args.asked own c.args.submission.text.now c.args.case.now c.image_or-image.result.now c.in-Ok.required
     c.judged_by_lines.result (c.image_or-image.ensures ∙ ap (λ o. unwrap_or o own) c.in_ok-given.ensures)
     c.in-Ok.ensures.means c.judged_by_lines.ensures.given c.judged_by_lines.ensures.right c.judged_by_lines.ensures.kept
-    c.judged_by_lines.ensures.work c.judged_by_lines.ensures.shown
+    c.judged_by_lines.ensures.work c.judged_by_lines.ensures.shown c.judged_by_lines.ensures.run

@@ -2,7 +2,7 @@ use Rattle.std.proofs.Common.{◌≡◌, ◌∙◌, ap, sym, subst, refl, inr, S
 use Rattle.program_searches.specs.Statuses.{unkept_in}
 use Rattle.program_searches.specs.declared.unkept.Unkept.{Unkept}
 use Rattle.seed_outcomes.specs.SpaceEndsTypes.SpaceEnd.{SpaceEnd}
-use Rattle.judgements.specs.Flaws.{ShowNothing, ShowsAt}
+use Rattle.judgements.specs.Flaws.{ShowNothing, IsWorstFlaw}
 use Rattle.judgements.specs.Shown.{JudgedAs, IsFound, IsLeftOpen}
 use Rattle.judgements.proofs.Shown.{is_complete, is_unshown}
 use Rattle.judgements.proofs.by_schedules.decided_by.Goals as goal
@@ -23,8 +23,8 @@ returns-in-Some-clause-shown c = λ p search. record {
   search = search;
   listed = refl;
   flaw = c.in-Some.flawed.flaw;
-  end =
-      subst (λ (ends : List SpaceEnd). ShowsAt ends c.in-Some.flawed.flaw c.in-Some.flawed.end) c.deref.ensures.value
+  first =
+      subst (λ (ends : List SpaceEnd). IsWorstFlaw ends c.in-Some.flawed.flaw c.in-Some.flawed.end) c.deref.ensures.value
       c.in-Some.ensures;
   verdict = c.kind.ensures;
 }
@@ -48,3 +48,13 @@ returns-clause-shown c = λ p search. inr (refl, left_open c p search)
 
 pub returns-clause-left : goal.returns-clause-left
 returns-clause-left c = λ p search kind. left_open c p search
+
+pub returns-in-Some-unshown-clause-decided : goal.returns-in-Some-unshown-clause-decided
+returns-in-Some-unshown-clause-decided c =
+    let found = c.args.found.now in
+    let claim = c.in-Some-unshown.claim in
+    is_complete found.is_complete found.unshown claim
+    (ap (λ (u : Unkept). u.unshown) (sym c.unkept.ensures) ∙ c.in-Some-unshown.is)
+
+pub returns-clause-decided : goal.returns-clause-decided
+returns-clause-decided c = λ right. absurd cc

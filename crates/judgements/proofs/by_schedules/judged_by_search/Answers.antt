@@ -1,4 +1,5 @@
-use Rattle.std.proofs.Common.{◌∙◌, sym, subst}
+use Rattle.std.proofs.Common.{◌∙◌, ap, sym, subst}
+use Rattle.judgements.specs.Known.{HasDecided, is_by_search}
 use Rattle.judgements.specs.Shown.{IsShownFor}
 use Rattle.judgements.specs.declared.case_judgements.Reason.{Reason}
 use Rattle.judgements.specs.declared.verdict_kinds.VerdictKind.{VerdictKind}
@@ -16,3 +17,18 @@ returns-clause-shown c = λ p search.
 pub returns-clause-left : goal.returns-clause-left
 returns-clause-left c = λ p search kind.
     c.decided_by-decided.ensures.left p search (sym c.plain-judgement.ensures.kind ∙ kind)
+
+pub returns-clause-known : goal.returns-clause-known
+returns-clause-known c =
+    let found = c.args.found in
+    let ends = found.ends.items in
+    let decided = c.decided_by-decided.result in
+    record {
+      known = c.plain-judgement.ensures.known ∙ c.known_of-known.ensures;
+      reason = ap is_by_search c.plain-judgement.ensures.reason ∙ c.decided_by-decided.ensures.searched;
+      decided =
+          subst (λ (v : VerdictKind). HasDecided found ends v c.plain-judgement.result.reason)
+          (sym c.plain-judgement.ensures.kind)
+          (subst (λ (w : Reason). HasDecided found ends decided.0 w) (sym c.plain-judgement.ensures.reason)
+          c.decided_by-decided.ensures.decided);
+    }

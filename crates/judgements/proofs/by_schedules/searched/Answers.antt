@@ -28,3 +28,10 @@ returns-clause-left g c = λ kind.
       limits = limits_of (Some c.args.bounds);
       seeds = record { first = 0; count = 0; most = 0 };
     }) (found_within g c) kind
+
+pub returns-clause-known : goal.returns-clause-known
+returns-clause-known g c = record {
+  found = c.in_ok-found.found;
+  search = found_within g c;
+  by_it = c.judged_by_search-judgement.ensures.known;
+}

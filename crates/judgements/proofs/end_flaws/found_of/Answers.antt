@@ -8,12 +8,15 @@ use Rattle.judgements.proofs.end_flaws.found_of.Goals as goal
 pub returns-then-is_of : goal.returns-then-is_of
 returns-then-is_of c =
     let ends = c.args.ends.now in
-    let end = c.index-ends-end.result in
-    record {
-      end = end;
-      there = slice_get_read ends (length ends) c.loop-end.end end refl c.loop-end-test.true c.index-ends-end.is;
-      shows = sym c.is_of.ensures ∙ c.if-is_of.true;
-    }
+    let end = c.index-ends-end.result in (
+      refl,
+      record {
+        end = end;
+        there = slice_get_read ends (length ends) c.loop-end.end end refl c.loop-end-test.true c.index-ends-end.is;
+        is_shown = sym c.is_of.ensures ∙ c.if-is_of.true;
+        before = λ k other below read. c.loop-end.invariant k below other read;
+      },
+    )
 
 pub loop-end-preserved : goal.loop-end-preserved
 loop-end-preserved c =
