@@ -30,3 +30,13 @@ score_of u verdict.Spins points = Some 0
 abbrev pub earned_points : Undecided → List CaseRow → ℕ
 earned_points u [] = 0
 earned_points u (c ∷ cs) = unwrap_or (score_of u c.kind c.points) 0 + earned_points u cs
+
+-- the points of a case by which there is this score, as far as they are in no score
+abbrev pub unscored_by : Option ℕ → ℕ → ℕ
+unscored_by None points = points
+unscored_by (Some score) points = 0
+
+-- the sum of the points of cases by which there is no score
+abbrev pub unscored_points : Undecided → List CaseRow → ℕ
+unscored_points u [] = 0
+unscored_points u (c ∷ cs) = unscored_by (score_of u c.kind c.points) c.points + unscored_points u cs

@@ -1,7 +1,7 @@
 //! The points of a submission.
 
 ghost use Rattle.std.specs.Prelude.{◌≡◌, ◌-◌, ◌^◌, min};
-ghost use Rattle.grade_reports.specs.Scores.{undecided_score, score_of, earned_points};
+ghost use Rattle.grade_reports.specs.Scores.{undecided_score, score_of, earned_points, unscored_by, unscored_points};
 
 use crate::rows::CaseRow;
 use judgements::VerdictKind;
@@ -49,6 +49,30 @@ pub fn earned_points(undecided: Undecided, cases: &[CaseRow]) -> u64
         rest = tail;
     }
     earned
+}
+
+/// The points by a case for which a submission has no score: all of them or none.
+fn unscored_by(undecided: Undecided, kind: VerdictKind, points: u32) -> u32
+    ensures { result ≡ unscored_by (score_of undecided kind points) points }
+{
+    match score_of(undecided, kind, points) {
+        Some(_) => 0,
+        None => points,
+    }
+}
+
+/// The sum of the points for which a submission has no score by some cases; the greatest number of 64 bits where it is more.
+pub(crate) fn unscored_points(undecided: Undecided, cases: &[CaseRow]) -> u64
+    ensures { result ≡ min (unscored_points undecided cases.now) (2 ^ 64 - 1) }
+{
+    let mut unscored: u64 = 0;
+    let mut rest = cases;
+    while let [case, tail @ ..] = rest {
+        let points = unscored_by(undecided, case.kind, case.points);
+        unscored = unscored.saturating_add(u64::from(points));
+        rest = tail;
+    }
+    unscored
 }
 
 /// Whether a submission has a score by each of some cases.

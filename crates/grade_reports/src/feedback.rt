@@ -1,6 +1,6 @@
 //! What a student is given of a submission, as a text.
 
-use crate::case_scores::{earned_points, score_of};
+use crate::case_scores::{earned_points, has_all_scores, score_of, unscored_points};
 use crate::command_words::push_file_word;
 use crate::reasons::{push_turns, reason_by_case, why_of};
 use crate::rows::{CaseRow, GradeRow};
@@ -40,10 +40,9 @@ pub fn feedback_of(
     let name = file_name(file.path);
     push_plain(&mut out, name)?;
     let word = row.kind.word();
-    let earned = earned_points(file.undecided, &row.cases);
-    let points = file.points;
-    let some_points = plural(points as usize);
-    write!(out, ": {word}, {earned} of {points} point{some_points}\n\n")?;
+    write!(out, ": {word}, ")?;
+    push_points(&mut out, file, row)?;
+    out.push_str("\n\n")?;
     push_verdicts(alloc, &mut out, file.undecided, row)?;
     if row.cases.is_empty() {
         out.push_str("All messages: mta_lab check ")?;
@@ -59,6 +58,23 @@ pub fn feedback_of(
         out.push_str("\n")?;
     }
     Ok(out)
+}
+
+/// Adds the points of a submission: what it has earned of all of them, and for how many it has no score.
+fn push_points(out: &mut String, file: StudentFile<'_>, row: &GradeRow) -> Result<(), AllocError> {
+    let points = file.points;
+    let some_points = plural(points as usize);
+    let is_scored = has_all_scores(file.undecided, &row.cases);
+    let unscored = unscored_points(file.undecided, &row.cases);
+    if !is_scored && unscored >= points {
+        return write!(out, "no score of {points} point{some_points}");
+    }
+    let earned = earned_points(file.undecided, &row.cases);
+    write!(out, "{earned} of {points} point{some_points}")?;
+    if is_scored {
+        return Ok(());
+    }
+    write!(out, ", no score of {unscored}")
 }
 
 /// Adds a line a case: its name, the verdict, the points, and why; of what is no program why it is none.

@@ -22,6 +22,7 @@ pub use case_scores::{earned_points, score_of};
 pub use feedback::{StudentFile, feedback_of};
 pub use judgements as judges;
 pub use judgements::{outcomes, searches};
+pub use moodle_report::MOODLE_FOLDER_MARK;
 pub use reasons::reason_of;
 pub use reports::{ReportForm, ReportedRow, head_of, lines_of, report_of};
 pub use row_statuses::worst_status;

@@ -17,8 +17,8 @@ pub(crate) const MOODLE_COLUMNS: &str = "\"Identifier\",\"Full name\",\"Grade\",
 /// What Moodle writes as the date of a grade that nobody has given yet.
 const NO_DATE: &str = "\"-\"";
 
-/// What stands after the number of a student in the name of a folder that Moodle makes.
-const FOLDER_MARK: &str = "_assignsubmission_";
+/// What stands after the name and the number of a student in the name of a folder that Moodle makes.
+pub const MOODLE_FOLDER_MARK: &str = "_assignsubmission_";
 
 /// Who handed a submission in.
 #[derive(Clone, Copy)]
@@ -32,7 +32,7 @@ struct Participant<'a> {
 /// Who handed in the submission of a path, by the folder `NAME_NUMBER_assignsubmission_..` in it; else the path as a name.
 fn participant_of(path: &str) -> Participant<'_> {
     for part in path.split('/') {
-        if let Some((front, _)) = part.split_once(FOLDER_MARK)
+        if let Some((front, _)) = part.split_once(MOODLE_FOLDER_MARK)
             && let Some((name, number)) = front.rsplit_once('_')
             && is_number(number)
         {
