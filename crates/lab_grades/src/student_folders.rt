@@ -1,22 +1,20 @@
 //! The folders that Moodle makes for what students hand in.
 
 use plain_text::push_plain;
+use result_lines::reports::MOODLE_FOLDER_MARK;
 use std::alloc::{AllocError, Global};
-
-/// What stands after the name and the number of a student in the name of such a folder.
-const FOLDER_MARK: &str = "_assignsubmission_";
 
 /// The folder of a path that Moodle made for a student; None where none of its folders is one.
 pub(crate) fn moodle_folder(path: &str) -> Option<&str> {
     let (folders, _) = path.rsplit_once('/')?;
     folders
         .split('/')
-        .find(|folder: &&str| folder.contains(FOLDER_MARK))
+        .find(|folder: &&str| folder.contains(MOODLE_FOLDER_MARK))
 }
 
 /// The name and the number of the student of a path, as Moodle writes them; None where no folder says them.
 fn student_of(path: &str) -> Option<&str> {
-    let (student, _) = moodle_folder(path)?.split_once(FOLDER_MARK)?;
+    let (student, _) = moodle_folder(path)?.split_once(MOODLE_FOLDER_MARK)?;
     Some(student)
 }
 
