@@ -2,9 +2,11 @@
 
 use changed_words::ChangedWord;
 use image_file::Image;
+use image_machines::{by_room, loaded};
 use lab_texts::{
     Notation, ProgramNames, RunPieces, TextWriter, full_word, push_changed_words, put_part_of,
 };
+use processor::Step;
 use space_ends::states::{EndState, TrapStop};
 use std::alloc::{AllocError, Global};
 use tag_memory::Word;
@@ -19,20 +21,85 @@ pub fn state_text(
     let mut text = String::new(alloc);
     let mut out = TextWriter::take(&mut text);
     put_stopped(&mut out, &state.stopped);
-    put_waiting(&mut out, notation.names, image, state);
     out.give_back(&mut text)?;
-    push_changed_words(&mut text, notation.names, notation.style, &state.changed)?;
+    push_left(&mut text, notation, image, state)?;
     Ok(text)
+}
+
+/// What the end of a run of these steps shows, in words: the same, and where in the program each stream was stopped.
+pub fn state_text_of_run(
+    alloc: Global,
+    notation: Notation<'_, '_>,
+    image: &Image,
+    steps: &[Step],
+    state: &EndState,
+) -> Result<String, AllocError> {
+    let mut text = String::new(alloc);
+    if !state.stopped.is_empty() {
+        by_room!(
+            image,
+            push_stopped_at(
+                alloc,
+                &mut text,
+                notation.names,
+                image,
+                steps,
+                &state.stopped
+            )
+        )?;
+    }
+    push_left(&mut text, notation, image, state)?;
+    Ok(text)
+}
+
+/// Adds who waits at an end of an image, and the words that changed.
+fn push_left(
+    text: &mut String,
+    notation: Notation<'_, '_>,
+    image: &Image,
+    state: &EndState,
+) -> Result<(), AllocError> {
+    let mut out = TextWriter::take(text);
+    put_waiting(&mut out, notation.names, image, state);
+    out.give_back(text)?;
+    push_changed_words(text, notation.names, notation.style, &state.changed)
 }
 
 /// Adds who was stopped by which trap.
 pub(crate) fn put_stopped(out: &mut TextWriter, stopped: &[TrapStop]) {
     for stop in stopped {
-        put_part_of(out, 0, "");
-        out.put_stream(stop.stream.p, stop.stream.s);
-        out.put(" by ");
-        out.put_trap(stop.trap);
+        put_stop(out, stop);
     }
+}
+
+/// Adds that a stream was stopped by a trap.
+fn put_stop(out: &mut TextWriter, stop: &TrapStop) {
+    put_part_of(out, 0, "");
+    out.put_stream(stop.stream.p, stop.stream.s);
+    out.put(" by ");
+    out.put_trap(stop.trap);
+}
+
+/// Adds who was stopped in a run of these steps by which trap, and where, on machines with room for `S` streams a processor.
+fn push_stopped_at<const S: usize>(
+    alloc: Global,
+    text: &mut String,
+    names: &ProgramNames<'_>,
+    image: &Image,
+    steps: &[Step],
+    stopped: &[TrapStop],
+) -> Result<(), AllocError> {
+    let mut machine = loaded::<S>(alloc, image)?;
+    machine.run(steps);
+    let mut out = TextWriter::take(text);
+    for stop in stopped {
+        put_stop(&mut out, stop);
+        if let Some(stream) = machine.stream(stop.stream.p, stop.stream.s) {
+            out.put(", at ");
+            names.put_place(&mut out, stream.ssw().pc);
+        }
+    }
+    out.give_back(text)
 }
 
 /// Adds which streams wait for which word, and for which state of it.

@@ -8,10 +8,11 @@ mod going_texts;
 mod loop_texts;
 mod space_texts;
 
-pub use end_texts::state_text;
+pub use end_texts::{state_text, state_text_of_run};
 pub use findings::{RunFindings, first_finding, push_findings_of_run};
 pub use going_texts::going_text;
 pub use lab_texts::WordRange;
+pub use loop_texts::cycle_text;
 pub use space_ends as ends_of_space;
 pub use space_ends::space;
 pub use space_texts::{

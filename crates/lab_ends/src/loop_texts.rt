@@ -62,7 +62,7 @@ fn push_changing(
 
 /// The cycle of an end of an image in words, each step by its stream and the place in the program where it stands; empty
 /// where there is none.
-pub(crate) fn cycle_text(
+pub fn cycle_text(
     alloc: Global,
     names: &ProgramNames<'_>,
     image: &Image,

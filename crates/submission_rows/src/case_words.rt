@@ -2,6 +2,7 @@
 
 use crate::report_lines::{CaseLines, absent_line};
 use case_cells::{SpokenRange, spoken_words};
+use end_kinds::EndKind;
 use expectation_files::{LineFault, LineFaultKind, Requirements, line_of, word_of};
 use expectation_messages::fault_words;
 use expectation_messages::parts::made_by;
@@ -13,8 +14,10 @@ use image_machines::by_room;
 use lab_requests::Maker;
 use lab_texts::{Notation, ProgramNames};
 use processor::Step;
-use search_texts::ends_in_words::ends_of_space::SpaceEnd;
-use search_texts::ends_in_words::{WordRange, first_finding, going_text, state_text, text_of_end};
+use search_texts::ends_in_words::ends_of_space::{SpaceEnd, SpaceEndKind};
+use search_texts::ends_in_words::{
+    WordRange, cycle_text, first_finding, going_text, state_text_of_run, text_of_end,
+};
 use search_texts::work_words;
 use source_places::SourcePlaces;
 use std::alloc::{AllocError, Global};
@@ -97,7 +100,13 @@ impl CaseNotation<'_, '_> {
         if run.flaw == RunFlaw::OutOfSteps {
             text.words = going_text(alloc, self.notation, self.image, &made.steps)?;
         }
-        let shown = state_text(alloc, self.notation, self.image, &run.end.state)?;
+        let shown = state_text_of_run(
+            alloc,
+            self.notation,
+            self.image,
+            &made.steps,
+            &run.end.state,
+        )?;
         push_after(&mut text.words, &shown)?;
         text.finding = self.finding(alloc, &made.steps, words)?;
         Ok(())
@@ -112,10 +121,27 @@ impl CaseNotation<'_, '_> {
         text: &mut CaseText,
     ) -> Result<(), AllocError> {
         if end.kind.is_end() {
-            text.words = text_of_end(alloc, self.notation, self.lines.required, self.image, end)?;
+            text.words = self.end_words(alloc, end)?;
         }
         text.finding = self.finding(alloc, &end.schedule, words)?;
         Ok(())
+    }
+
+    /// What an end of all schedules shows: where the streams were stopped, or the steps of a cycle of one that spins.
+    fn end_words(self, alloc: Global, end: &SpaceEnd) -> Result<String, AllocError> {
+        let CaseNotation {
+            image,
+            notation,
+            lines,
+            ..
+        } = self;
+        if end.kind != SpaceEndKind::End(EndKind::Spinning) {
+            return state_text_of_run(alloc, notation, image, &end.schedule, &end.state);
+        }
+        let mut words = cycle_text(alloc, notation.names, image, end)?;
+        let shown = text_of_end(alloc, notation, lines.required, image, end)?;
+        push_after(&mut words, &shown)?;
+        Ok(words)
     }
 
     /// The first finding of a run that is about one of these words, else the first of all; empty where it has none.
