@@ -1,6 +1,6 @@
 -- Addresses of data words, by numbers and by names, and addresses of program words, by numbers and by labels.
 use Rattle.std.specs.Prelude.{ℕ, ◌+◌, ◌-◌, ◌*◌, ◌%◌, ◌^◌, ◌==◌, nat_lt, nat_le, ◌&&◌, if◌then◌else◌, List, length, take, drop, find}
-use Rattle.std.specs.Prelude.{Bool, slice_index, Option, Some, None, Result, Ok, Err}
+use Rattle.std.specs.Prelude.{Bool, not, slice_index, Option, Some, None, Result, Ok, Err}
 use Rattle.std.specs.Option.{option_and_then}
 use Rattle.std.specs.Str.{bytes_eq}
 use Rattle.tag_memory.specs.Storage.{most_memory_words}
@@ -86,9 +86,9 @@ range_between (Ok first) (Err kind) = Err kind
 range_between (Ok first) (Ok last) =
     if nat_le first last then Ok (record { first = first; last = last }) else Err fault.Range
 
--- what stands behind a point
+-- what stands behind a point that no other one follows
 abbrev pub behind_point : List ℕ → Option (List ℕ)
-behind_point text = if slice_index text 0 == 46 then Some (drop 1 text) else None
+behind_point text = if slice_index text 0 == 46 && not (slice_index text 1 == 46) then Some (drop 1 text) else None
 
 -- what stands behind the two points of a range
 abbrev pub behind_points : List ℕ → Option (List ℕ)

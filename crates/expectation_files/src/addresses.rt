@@ -171,11 +171,12 @@ pub(crate) fn range_said(
     }
 }
 
-/// What stands after a point that a text begins with.
+/// What stands after a point that a text begins with, where no other one follows.
 fn behind_point(text: Option<&[u8]>) -> Option<&[u8]>
     ensures { option_copied result ≡ option_and_then behind_point (option_copied text.entry) }
 {
     match text {
+        Some([b'.', b'.', ..]) => None,
         Some([b'.', rest @ ..]) => Some(rest),
         _ => None,
     }

@@ -88,11 +88,20 @@ fn text_of(kind: LineFaultKind) -> FaultText {
     }
 }
 
-/// That no data word has this name, and which may be meant.
+/// That no data word has this name, or one of the two names of a range, and which may be meant.
 fn name_words(alloc: Global, word: &str, names: &ProgramNames<'_>) -> Result<String, AllocError> {
     let mut words = String::new(alloc);
-    names.push_no_address(alloc, &mut words, word)?;
+    names.push_no_address(alloc, &mut words, unknown_end(word, names))?;
     Ok(words)
+}
+
+/// Of a range `FIRST..LAST` the one that is no address, the first if neither is; a text that is no range as it is.
+fn unknown_end<'w>(word: &'w str, names: &ProgramNames<'_>) -> &'w str {
+    match word.split_once("..") {
+        Some((first, last)) if names.address_of(first).is_some() => last,
+        Some((first, _)) => first,
+        None => word,
+    }
 }
 
 /// Which data words an image has.
