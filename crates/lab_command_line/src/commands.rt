@@ -8,11 +8,9 @@ use crate::file_commands::{
 use crate::gallery_command::GALLERY_ARGUMENTS;
 use crate::help;
 use crate::many_runs_commands::{EXPLORE_ARGUMENTS, GRADE_ARGUMENTS, SURVEY_ARGUMENTS};
+use crate::page_commands::{PAGE_ARGUMENTS, PICTURE_ARGUMENTS};
 use crate::play_command::PLAY_ARGUMENTS;
-use crate::run_commands::{
-    COMPARE_ARGUMENTS, DEBUG_ARGUMENTS, PAGE_ARGUMENTS, PICTURE_ARGUMENTS, SCHEDULE_ARGUMENTS,
-    VIEW_ARGUMENTS,
-};
+use crate::run_commands::{COMPARE_ARGUMENTS, DEBUG_ARGUMENTS, SCHEDULE_ARGUMENTS, VIEW_ARGUMENTS};
 
 /// The commands.
 #[derive(Clone, Copy, PartialEq, Eq)]

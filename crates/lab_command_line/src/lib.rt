@@ -13,6 +13,7 @@ mod gallery_command;
 mod help;
 mod many_runs_commands;
 mod options;
+mod page_commands;
 mod parsers;
 mod play_command;
 mod reading;

@@ -8,11 +8,10 @@ use crate::gallery_command::gallery_of;
 use crate::help;
 use crate::many_runs_commands::{explore_of, grading_of, survey_of};
 use crate::options::chosen;
+use crate::page_commands::{page_of, picture_of};
 use crate::parsers::lab_parser;
 use crate::play_command::play_of;
-use crate::run_commands::{
-    compare_of, debug_of, misfit_of, page_of, picture_of, schedule_of, view_of,
-};
+use crate::run_commands::{compare_of, debug_of, misfit_of, schedule_of, view_of};
 use crate::standard_inputs::misused_input;
 use clap::error::ErrorKind;
 use clap::{ArgMatches, Error};

@@ -1,4 +1,4 @@
-//! The commands that show or make one run, or two: their arguments, in the order of the help, and what they ask.
+//! The commands that show or make one run, or two, in text: their arguments, in the order of the help, and what they ask.
 
 use crate::arguments::{Argument, Form, Presence};
 use crate::choices::{RULE_WORDS, RULES, RuleName};
@@ -6,10 +6,11 @@ use crate::commands::CommandName;
 use crate::file_commands::exercise_misfit;
 use crate::help;
 use crate::options::{MOST_STEPS, USUAL_STEPS, chosen, count, number, shown_of, text, word};
-use crate::shared_arguments::{GIVEN, HEX_IN_TEXT, JSON, PROGRAM, SCHEDULE, SEED, STEPS, TITLE};
-use crate::values::{PAGE_FILE, SCHEDULE_FILE, ValueKind};
+use crate::page_commands::page_misfit;
+use crate::shared_arguments::{GIVEN, HEX_IN_TEXT, JSON, PROGRAM, SCHEDULE, SEED, STEPS};
+use crate::values::{SCHEDULE_FILE, ValueKind};
 use clap::ArgMatches;
-use lab_requests::{LabCommand, Maker, PageRequest, RunChoice, ViewRequest};
+use lab_requests::{LabCommand, Maker, RunChoice, ViewRequest};
 
 /// Of `schedule`.
 pub(crate) const SCHEDULE_ARGUMENTS: [Argument; 4] = [
@@ -112,85 +113,6 @@ pub(crate) const COMPARE_ARGUMENTS: [Argument; 8] = [
     JSON,
 ];
 
-/// Of `page`.
-pub(crate) const PAGE_ARGUMENTS: [Argument; 12] = [
-    PROGRAM,
-    Argument(
-        "SCHEDULE",
-        help::PAGE_SCHEDULE,
-        Form::Optional(SCHEDULE_FILE, &["fair", "seed", "rounds"]),
-    ),
-    Argument(
-        "OTHER",
-        "another one, whose run is shown next to the first",
-        Form::Optional(SCHEDULE_FILE, &[]),
-    ),
-    GIVEN,
-    Argument(
-        "seeds",
-        "SCHEDULE and OTHER are seeds of random schedules",
-        Form::Flag(&[]),
-    ),
-    Argument("fair", help::FAIR, Form::Flag(&["seed", "rounds"])),
-    Argument(
-        "rounds",
-        "the running streams step in the order of processor and stream",
-        Form::Flag(&["seed"]),
-    ),
-    SEED,
-    STEPS,
-    Argument(
-        "round",
-        help::ROUND,
-        Form::Option(
-            "N",
-            ValueKind::Number(1, MOST_STEPS),
-            Presence::Without(&["OTHER"]),
-        ),
-    ),
-    TITLE,
-    Argument(
-        "out",
-        "the page, FILE.html",
-        Form::Option("FILE", PAGE_FILE, Presence::Needed),
-    ),
-];
-
-/// Of `picture`.
-pub(crate) const PICTURE_ARGUMENTS: [Argument; 11] = [
-    PROGRAM,
-    Argument(
-        "SCHEDULE",
-        help::SCHEDULE_FILE,
-        Form::Optional(SCHEDULE_FILE, &["fair", "seed", "rounds", "steps"]),
-    ),
-    GIVEN,
-    Argument("fair", help::FAIR, Form::Flag(&["seed", "rounds"])),
-    Argument(
-        "rounds",
-        "the running streams step in the order of processor and stream",
-        Form::Flag(&["seed"]),
-    ),
-    SEED,
-    STEPS,
-    Argument(
-        "from",
-        "the first step that is drawn",
-        Form::Option("K", ValueKind::Number(1, u64::MAX / 2), Presence::Free),
-    ),
-    Argument(
-        "to",
-        "the last step that is drawn",
-        Form::Option("K", ValueKind::Number(1, u64::MAX / 2), Presence::Free),
-    ),
-    TITLE,
-    Argument(
-        "out",
-        "the picture, FILE.svg",
-        Form::Option("FILE", ValueKind::File(&[".svg"]), Presence::Needed),
-    ),
-];
-
 /// What is said of a command's words that do not go together; None where they do.
 pub(crate) fn misfit_of(command: CommandName, found: &ArgMatches) -> Option<&'static str> {
     match command {
@@ -235,27 +157,10 @@ fn compare_misfit(found: &ArgMatches) -> Option<&'static str> {
     }
 }
 
-/// What is said of words of `page` that do not go together.
-fn page_misfit(found: &ArgMatches) -> Option<&'static str> {
-    if lacks_seeds(found, "SCHEDULE") {
-        return Some("with --seeds SCHEDULE and OTHER are numbers from 0 to 18446744073709551615");
-    }
-    if has_idle_steps(found) {
-        Some("--steps is of schedules that are made, and SCHEDULE is a file")
-    } else {
-        None
-    }
-}
-
 /// Whether two seeds are to be taken, and a word is none.
-fn lacks_seeds(found: &ArgMatches, one: &str) -> bool {
+pub(crate) fn lacks_seeds(found: &ArgMatches, one: &str) -> bool {
     let are_seeds = seed_in(found, one).is_some() && seed_in(found, "OTHER").is_some();
     found.get_flag("seeds") && !are_seeds
-}
-
-/// Whether `page` has a number of steps that says nothing: its schedule is a file's.
-fn has_idle_steps(found: &ArgMatches) -> bool {
-    !found.get_flag("seeds") && found.contains_id("SCHEDULE") && found.contains_id("steps")
 }
 
 /// The seed that a word is; None where it is none.
@@ -269,7 +174,7 @@ fn seed_in(found: &ArgMatches, name: &str) -> Option<u64> {
 }
 
 /// One of two schedules that are compared.
-fn compared_of<'a>(found: &ArgMatches<'a>, name: &str) -> RunChoice<'a> {
+pub(crate) fn compared_of<'a>(found: &ArgMatches<'a>, name: &str) -> RunChoice<'a> {
     if !found.get_flag("seeds") {
         return RunChoice::File(word(found, name));
     }
@@ -345,7 +250,7 @@ pub(crate) fn view_of<'a>(found: &ArgMatches<'a>) -> ViewRequest<'a> {
 }
 
 /// By which schedule a program runs: a file's, a random one where a seed is given, else a fair one.
-fn run_of<'a>(found: &ArgMatches<'a>) -> RunChoice<'a> {
+pub(crate) fn run_of<'a>(found: &ArgMatches<'a>) -> RunChoice<'a> {
     if let Some(path) = text(found, "SCHEDULE") {
         return RunChoice::File(path);
     }
@@ -356,53 +261,5 @@ fn run_of<'a>(found: &ArgMatches<'a>) -> RunChoice<'a> {
     RunChoice::Made {
         maker,
         most: count(found, "steps", USUAL_STEPS),
-    }
-}
-
-/// What `page` is asked.
-pub(crate) fn page_of<'a>(found: &ArgMatches<'a>) -> PageRequest<'a> {
-    let shown = PageRequest {
-        round: found.get_one::<usize>("round"),
-        ..drawn_of(found)
-    };
-    if !found.contains_id("OTHER") {
-        return shown;
-    }
-    PageRequest {
-        run: compared_of(found, "SCHEDULE"),
-        other: Some(compared_of(found, "OTHER")),
-        ..shown
-    }
-}
-
-/// What `picture` is asked, and `page` of one run.
-fn drawn_of<'a>(found: &ArgMatches<'a>) -> PageRequest<'a> {
-    let run = if found.get_flag("rounds") {
-        RunChoice::Made {
-            maker: Maker::Rounds,
-            most: count(found, "steps", USUAL_STEPS),
-        }
-    } else {
-        run_of(found)
-    };
-    PageRequest {
-        program: word(found, "PROGRAM"),
-        given: text(found, "given"),
-        run,
-        other: None,
-        from: 1,
-        to: usize::MAX,
-        round: None,
-        title: text(found, "title"),
-        out: word(found, "out"),
-    }
-}
-
-/// What `picture` is asked.
-pub(crate) fn picture_of<'a>(found: &ArgMatches<'a>) -> PageRequest<'a> {
-    PageRequest {
-        from: count(found, "from", 1),
-        to: count(found, "to", usize::MAX),
-        ..drawn_of(found)
     }
 }
