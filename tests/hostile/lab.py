@@ -1,6 +1,6 @@
 """The lab under hostile use: each allocation of its commands refused in turn, outputs that are full or that nobody
-reads, large and damaged inputs, bytes above 7F, long lines, small stacks, no threads. Each run ends with words and a
-status of the table, and nothing is lost."""
+reads, inputs that can't be read, large and damaged inputs, bytes above 7F, long lines, small stacks, no threads. Each run
+ends with words and a status of the table, and nothing is lost."""
 
 import os
 import json
@@ -10,7 +10,7 @@ import resource
 import subprocess
 from functools import partial
 
-from program import EXAMPLES, LAB, Tally, read, run, write
+from program import EXAMPLES, LAB, ROOT, Tally, read, run, write
 from refusing import interposer, refused_allocation, refused_threads
 
 GRADED = os.path.join(EXAMPLES, "grading/submissions")
@@ -171,6 +171,25 @@ def outputs(tally):
         tally.runs += 2
 
 
+def inputs(tally, folder):
+    """Standard input that can't be read is said by each command that reads it, and is no end of it: a folder, a file that is
+    open to be written alone, and none."""
+    lock = example("lock.asm")
+    given = write(folder, "given.schedule", b"0 0 2\n")
+    exercises = os.path.join(ROOT, "exercises")
+    write_only, at_root = os.open("/dev/null", os.O_WRONLY), os.open("/", os.O_RDONLY)
+    calls = (["debug", lock], ["debug", lock, given], ["dap"], ["lsp"], ["exercise", "1", "--watch", "--folder", exercises],
+             ["check", "-"], ["fmt"], ["view", "-"], ["view", lock, "-"], ["survey", "--expect", "-", lock])
+    for what, text, setup in (("a folder", at_root, None), ("an output", write_only, None), ("none", b"", lambda: os.close(0))):
+        for words in calls:
+            ended = lab(words, text, setup=setup)
+            tally.runs += 1
+            tally.check(f"{words} of {what} as its input: {ended}",
+                        ended.status == 1 and ended.err.endswith(b")\n") and b"mta_lab: -: read failed: " in ended.err)
+    os.close(write_only)
+    os.close(at_root)
+
+
 def framed(messages):
     """The bytes of messages of an editor."""
     bodies = [json.dumps(message).encode() for message in messages]
@@ -307,6 +326,7 @@ def part(pool, folder):
     drawing(tally, library, folder)
     serving(tally, library, folder)
     outputs(tally)
+    inputs(tally, folder)
     without_threads(tally, library, folder)
     small_stacks(tally, folder)
     long_lines(tally)

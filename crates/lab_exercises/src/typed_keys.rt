@@ -2,6 +2,7 @@
 
 use crossbeam_channel::Sender;
 use std::alloc::Global;
+use std::io;
 use std::io::Read;
 use std::sync::Wait;
 use std::sync::atomic::{AtomicBool, Ordering};
@@ -37,11 +38,14 @@ impl TypedKey {
     }
 }
 
-/// Where the thread that reads passes on what is typed.
-pub(crate) type KeySender = Sender<TypedKey, Global>;
+/// What the thread that reads passes on: what a line asks for, or why no more can be read.
+pub(crate) type ReadKey = Result<TypedKey, io::Error>;
 
-/// Reads lines and passes on what each asks for, up to one that asks for the end, or to the end of the input; unless who
-/// answers has given up already: where the system has no thread for it, this comes last.
+/// Where it passes it on.
+pub(crate) type KeySender = Sender<ReadKey, Global>;
+
+/// Reads lines and passes on what each asks for, up to one that asks for the end, to the end of the input, or to where it can't
+/// be read; unless who answers has given up already: where the system has no thread for it, this comes last.
 pub(crate) fn read_keys_if_first<X: Wait, R: Read>(
     rt: &X,
     is_begun: &AtomicBool,
@@ -59,8 +63,12 @@ fn read_keys<X: Wait, R: Read>(rt: &X, input: &mut R, sender: &KeySender) {
     let mut is_begun = false;
     for _ in 0..u64::MAX {
         let count = match input.read(&mut chunk) {
-            Ok(0) | Err(_) => return,
+            Ok(0) => return,
             Ok(count) => count,
+            Err(error) => {
+                let _ = sender.send(rt, Err(error));
+                return;
+            }
         };
         for byte in chunk.get(..count).unwrap_or(b"") {
             if *byte == b'\n' {
@@ -77,5 +85,5 @@ fn read_keys<X: Wait, R: Read>(rt: &X, input: &mut R, sender: &KeySender) {
 
 /// Passes on what a line asks for. Whether more is to be read.
 fn pass_on<X: Wait>(rt: &X, key: TypedKey, sender: &KeySender) -> bool {
-    sender.send(rt, key).is_ok() && key != TypedKey::Quit
+    sender.send(rt, Ok(key)).is_ok() && key != TypedKey::Quit
 }

@@ -3,7 +3,7 @@
 use crate::exercising::{AskedExercise, place_of, push_progress, show_hint, tell};
 use crate::folders::{Exercise, read_exercises};
 use crate::part_files::read_part_or_why;
-use crate::typed_keys::{TypedKey, read_keys_if_first};
+use crate::typed_keys::{ReadKey, TypedKey, read_keys_if_first};
 use crossbeam_channel::{Receiver, RecvTimeoutError};
 use editor_wire::{has_begun, has_second_thread};
 use exercise_advice::searches::Console;
@@ -38,7 +38,7 @@ const KEYS: &str =
 const NO_THREAD: &str = "--watch takes a second thread, and the system starts none";
 
 /// Judges the program of an exercise each time that its file changes, and says what comes of it, up to a line that asks for
-/// the end, or to the end of standard input. A thread reads the lines.
+/// the end, or to the end of standard input. A thread reads the lines. If standard input can't be read, that is the fault.
 pub fn watch_exercise<
     X: Threads + Wait + Sync + Clock,
     F: Files,
@@ -112,7 +112,7 @@ fn no_thread(alloc: Global) -> LabFault {
 #[derive(Drop)]
 struct WatchPorts<'p, 'w, 'c, F, W, X, E> {
     files: &'p F,
-    keys: Receiver<TypedKey, Global>,
+    keys: Receiver<ReadKey, Global>,
     printer: &'p mut Printer<'w, W>,
     console: &'p mut Console<'c, X, E>,
 }
@@ -147,10 +147,13 @@ impl WatchedExercise<'_, '_> {
                 show(alloc, told, ports.printer, ports.console)?;
             }
             let key = match ports.keys.recv_timeout(rt, Duration::from_secs(REST)) {
-                Ok(TypedKey::Quit) | Err(RecvTimeoutError::Disconnected) => {
+                Ok(Ok(TypedKey::Quit)) | Err(RecvTimeoutError::Disconnected) => {
                     return Ok(Status::Done);
                 }
-                Ok(key) => key,
+                Ok(Ok(key)) => key,
+                Ok(Err(error)) => {
+                    return Err(LabFault::Words(format!(in alloc; "-: read failed: {error}")?));
+                }
                 Err(RecvTimeoutError::Timeout) => continue,
             };
             let told = self.answer(rt, alloc, &mut inputs, key, ports.console);

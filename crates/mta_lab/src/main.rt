@@ -14,6 +14,12 @@ use std::{env, fs};
 
 fn main(rt: HostRuntime) -> ExitCode {
     let alloc = rt.alloc();
+    // (these take the places of standard streams that are closed: else the next files would be read, or written, as such)
+    let _folders = [
+        fs::open(&rt, "/").ok(),
+        fs::open(&rt, "/").ok(),
+        fs::open(&rt, "/").ok(),
+    ];
     let mut foreign = ForeignNames::none(alloc);
     let words = arguments(&rt, alloc, &mut foreign);
     let terminals = Terminals {
