@@ -2,6 +2,7 @@
 that belongs to it, or none. And what the command `exercise` says."""
 
 import contextlib
+import glob
 import os
 import re
 import select
@@ -80,6 +81,16 @@ def is_whole(exercise):
                                        hints.startswith("## Hint 1\n"), len(cases) > 1)
 
 
+def is_decided(exercise):
+    """The solution and each wrong program are decided by every schedule, each in ten seconds and with 200 megabytes."""
+    folder = os.path.join(EXERCISES, exercise)
+    paths = [os.path.join(folder, "solution.asm"), *sorted(glob.glob(os.path.join(folder, "wrong", "*.asm")))]
+    said = lab("grade", "--cases", os.path.join(folder, "cases"), "--explore", "--seconds", "10", "--memory", "200", "--jobs",
+               "1", "--format", "tsv", *paths)
+    verdicts = [line.split("\t")[1] for line in said.out.decode().splitlines()]
+    return (len(paths), 0), (len(verdicts), verdicts.count("not decided"))
+
+
 def is_unedited(exercise):
     """The file that a reset takes is the start."""
     return text_of(exercise, "start.asm"), text_of(exercise, "original.asm")
@@ -87,7 +98,7 @@ def is_unedited(exercise):
 
 @checks.others("exercises/programs")
 def programs():
-    parts = (is_whole, is_quiet, is_solved, is_open, is_unedited)
+    parts = (is_whole, is_quiet, is_solved, is_open, is_decided, is_unedited)
     return [(f"exercises/{name}: {part.__name__}", lambda name=name, part=part: part(name))
             for name in exercises() for part in parts]
 
