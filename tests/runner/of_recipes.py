@@ -122,6 +122,23 @@ def vpl(folder, source, name="answer.asm", program=tool.LAB):
     return ended.returncode, grades[-1] if grades else None, "\n".join(comments), "\n".join(others)
 
 
+README = os.path.join(table.ROOT, "README.md")
+DEVCONTAINER = os.path.join(table.ROOT, "editors/devcontainer.json")
+
+
+@checks.others("recipes/devcontainer")
+def devcontainer():
+    """The steps of editors/devcontainer.json are those of README.md for a container, with the package of any version."""
+    text = tool.read(README).decode()
+    run, install, copy = re.search(r"(?m)^(docker run .*)\n(apt-get .*)\n(cp -rn .*)$", text).groups()
+    steps = json.loads(tool.read(DEVCONTAINER))
+    platform, image = re.search(r"(--platform) (\S+).* (\S+)$", run).group(2, 3)
+    yield "the image", ([f"--platform={platform}"], image), (steps["runArgs"], steps["image"])
+    package = re.sub(r"_[0-9][^_]*_", "_*_", install)
+    yield "the package", package, steps["onCreateCommand"].replace(" --no-install-recommends", "")
+    yield "the copy", copy, steps["postCreateCommand"]
+
+
 @checks.others("recipes/vpl")
 def by_vpl():
     """The grade and the comments that VPL takes."""
