@@ -15,3 +15,16 @@ macro_rules! by_room {
         }
     };
 }
+
+/// The same with the least of 1, 4, 16 and 128 that an image needs, for who keeps many machines.
+#[macro_export]
+macro_rules! by_least_room {
+    ($image:expr, $function:ident::<$($before:ty),*>($($argument:expr),* $(,)?)) => {
+        match $image.slim() {
+            0 | 1 => $function::<$($before,)* 1>($($argument),*),
+            2..=4 => $function::<$($before,)* 4>($($argument),*),
+            5..=16 => $function::<$($before,)* 16>($($argument),*),
+            _ => $function::<$($before,)* 128>($($argument),*),
+        }
+    };
+}

@@ -2,6 +2,7 @@
 
 use crate::bounds::USUAL_MEGABYTES;
 use image_file::Image;
+use image_machines::by_least_room;
 use lab_requests::Bounds;
 use std::fs::File;
 use std::os::unix::fs::FileExt;
@@ -125,12 +126,12 @@ impl HeldBytes {
 
 /// For how many streams a processor of a search's machines has room.
 fn room_of(image: &Image) -> usize {
-    match image.slim() {
-        0 | 1 => 1,
-        2..=4 => 4,
-        5..=16 => 16,
-        _ => 128,
-    }
+    by_least_room!(image, room::<>())
+}
+
+/// The room of a machine with room for `S` streams a processor.
+fn room<const S: usize>() -> usize {
+    S
 }
 
 /// How many bytes of the process are in memory: the second number of the system's file, in pages; None where that is not

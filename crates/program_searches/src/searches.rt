@@ -47,6 +47,7 @@ use crate::spaces::space_in_time;
 use crate::watching::{Console, WatchedSearch, Watcher};
 use expectation_files::Requirements;
 use image_file::Image;
+use image_machines::by_least_room;
 use lab_requests::Bounds;
 use machine::LoadFault;
 use processor::Step;
@@ -175,16 +176,11 @@ fn explore_watched<'i, C: Clock, E: Write>(
 ) -> Result<Explored<'i>, AllocError>
     ensures { IfOk result (λ e. IsExplored image.entry.now asked.now e) }
 {
-    match image.slim() {
-        0 | 1 => explore_on::<1, C, E>(alloc, image, asked, watcher),
-        2..=4 => explore_on::<4, C, E>(alloc, image, asked, watcher),
-        5..=16 => explore_on::<16, C, E>(alloc, image, asked, watcher),
-        _ => explore_on::<128, C, E>(alloc, image, asked, watcher),
-    }
+    by_least_room!(image, explore_on::<C, E>(alloc, image, asked, watcher))
 }
 
 /// The same on machines with room for `S` streams a processor.
-fn explore_on<'i, const S: usize, C: Clock, E: Write>(
+fn explore_on<'i, C: Clock, E: Write, const S: usize>(
     alloc: Global,
     image: &'i Image,
     asked: &ProgramSearch<'_>,
