@@ -1,6 +1,6 @@
 //! What the runs of seeds say of who does the work in a program.
 
-ghost use Rattle.std.specs.Prelude.{◌≡◌, ◌<◌, false, length, IfOk, Some};
+ghost use Rattle.std.specs.Prelude.{◌≡◌, ◌<◌, false, IfOk, Some};
 ghost use Rattle.seed_work.specs.SeedWork.{IsWorkJudged};
 ghost use Rattle.judgements.specs.Cases.{seeds_of};
 ghost use Rattle.judgements.specs.Flaws.{kind_of_work};

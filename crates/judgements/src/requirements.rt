@@ -3,7 +3,6 @@
 ghost use Rattle.std.specs.Prelude.{◌≡◌, Ok, Err, IfOk, IfErr, IfNone, OnSome, length};
 ghost use Rattle.expectation_files.specs.Seen.{requirements_seen};
 ghost use Rattle.expectation_files.specs.Files.{file_said};
-ghost use Rattle.expectation_files.specs.Addresses.{Names};
 ghost use Rattle.expectation_files.specs.declared.faults.FileFault.TheVariants as file;
 ghost use Rattle.source_places.specs.SourcePlaces.{data_names_seen, labels_seen};
 ghost use Rattle.case_cells.specs.NamedWords.{places_seen};

@@ -2,7 +2,6 @@
 
 ghost use Rattle.std.specs.Prelude.{◌≡◌, ◌<◌, length, IfOk};
 ghost use Rattle.program_searches.specs.Statuses.{worst};
-ghost use Rattle.judgements.specs.Severity.{severity_of};
 ghost use Rattle.judgements.specs.Statuses.{statuses_of};
 ghost use Rattle.judgements.specs.Verdicts.{AreCasesJudged, AreRightCases, IsWorst, IsKindAt, known_of_all, known_in, of_no_case};
 
