@@ -53,8 +53,8 @@ def outputs(tally, image, schedule):
         folder = os.open("/", os.O_RDONLY)
         tally.refuses(f"{words[0]} from a folder", words, b"read failed", folder)
         os.close(folder)
-    # of debug the image would be opened in the place of the closed input
-    tally.refuses("words from no input", ["words"], b"read failed", setup=lambda: os.close(0))
+    for words in (["words"], ["debug", image, schedule]):
+        tally.refuses(f"{words[0]} from no input", words, b"read failed", setup=lambda: os.close(0))
 
 
 def part(_, folder):
