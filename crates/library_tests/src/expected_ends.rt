@@ -148,7 +148,7 @@ const FAULTS: [(&str, usize, usize, LineFaultKind); 66] = [
     ),
     ("words 4..8 1", 1, 1, LineFaultKind::Address),
     ("words 0..2097152 1", 1, 1, LineFaultKind::Address),
-    ("words 0...8 1", 1, 1, LineFaultKind::Address),
+    ("words 0...8 1", 1, 1, LineFaultKind::Points),
     ("words 0.. 1", 1, 1, LineFaultKind::Address),
     ("words 0..8 x", 1, 2, LineFaultKind::Number),
     ("sum 0..8", 1, 0, LineFaultKind::Form(LineForm::Sum)),
