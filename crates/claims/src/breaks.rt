@@ -10,7 +10,7 @@ use std::alloc::{AllocError, Global};
 
 impl Claim {
     /// After how many steps of a schedule it does not hold, from the world of a machine on and in this order. The world
-    /// behind the last step is not looked at; the machine stands there in the end.
+    /// after the last step is not checked; the machine stands there in the end.
     pub fn breaks<const S: usize>(
         &self,
         alloc: Global,

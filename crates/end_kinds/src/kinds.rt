@@ -3,16 +3,16 @@
 ghost use Rattle.std.specs.Prelude.{◌≡◌};
 ghost use Rattle.end_kinds.specs.Words.{name_of, json_name_of, sentence_of};
 
-/// How a run ends, or how it goes on for ever ("Ends", docs/LAB.md).
+/// How a run ends, or how it goes on forever ("Ends", docs/LAB.md).
 #[derive(Clone, Copy, Debug, PartialEq, Eq)]
 pub enum EndKind {
     /// No stream runs, and none was stopped by a trap.
     Finished,
     /// No stream runs, and some was stopped by a trap.
     Stopped,
-    /// Some stream runs, and none that runs can go on, for ever.
+    /// Some stream runs, and none that runs can ever go on.
     Deadlock,
-    /// Some stream runs for ever: no schedule leads to an end. No single world shows it, only a search over all.
+    /// Some stream runs forever: no schedule leads to an end. No single world shows it, only a search over all.
     Spinning,
     /// Some stream runs that can go on: the schedule ended first.
     OutOfSteps,

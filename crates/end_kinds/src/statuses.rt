@@ -10,7 +10,7 @@ use crate::kinds::EndKind;
 pub enum Status {
     /// Done, and all is as expected.
     Done,
-    /// A fault, which is told.
+    /// A fault, which is reported.
     Fault,
     /// The command line asks for no command.
     NoCommand,
@@ -18,7 +18,7 @@ pub enum Status {
     Unexpected,
     /// Some end is a deadlock.
     Deadlock,
-    /// Something runs for ever, or a run or a search ended at its bound.
+    /// Something runs forever, or a run or a search ended at its bound.
     OutOfSteps,
 }
 

@@ -14,9 +14,9 @@ use std::alloc::{AllocError, Global};
 /// How often a program is gone through at most.
 const ROUNDS: u32 = 1000;
 
-/// For each word of an image's program whether it is settled: no way from there leads to a RESERVE or CREATE, as far as
-/// the program alone tells, where t0 names no handler. That all such words are told is not promised: none is where that is
-/// not done after going through the program 1,000 times. An error where memory is refused.
+/// For each word of an image's program whether it is settled: from there no RESERVE or CREATE can be reached, as far as
+/// the program alone shows, if t0 names no handler. That all such words are found is not promised: none is found if
+/// that is not done after going through the program 1,000 times. An error if memory is refused.
 pub fn settled_places(alloc: Global, image: &Image) -> Result<Vec<bool>, AllocError>
     ensures { IfOk result (λ places. AreSettled image.now places.items) }
 {
@@ -34,15 +34,15 @@ pub fn settled_places(alloc: Global, image: &Image) -> Result<Vec<bool>, AllocEr
     Ok(Vec::new(alloc))
 }
 
-/// Whether a stream at one of these places never asks for a stream, as far as the program alone tells.
+/// Whether a stream at one of these places never asks for a stream, as far as the program alone shows.
 fn are_settled(image: &Image, places: &[bool]) -> bool
     ensures { IsTrue result → AreSettled image.now places.now }
 {
     are_calm(image.profile(), image.program(), places)
 }
 
-/// Takes the places from the settled ones that are not, by those behind them, the last one first, and says whether there
-/// were any.
+/// Takes away from the settled places those that are not settled, by the places that can come next, the last one first,
+/// and says whether there were any.
 fn go_through(profile: Profile, program: &[u64], places: &mut [bool]) -> bool {
     let mut changed = false;
     for place in (0..places.len()).rev() {
@@ -145,7 +145,7 @@ fn leads_to_settled(insn: &Insn, places: &[bool], place: u32) -> bool
     }
 }
 
-/// The place so many words behind the next one, modulo 2^32.
+/// The place so many words after the next one, modulo 2^32.
 fn skipped(place: u32, words: i8) -> u32
     ensures { result ≡ skip_pc place words }
 {

@@ -40,7 +40,8 @@ pub fn code_table(
     Ok(Vec::new(alloc))
 }
 
-/// Makes each row anew by those behind it, the last one first, and says whether one has changed.
+/// Computes each row again from the rows of the places that can come next, the last row first, and says whether one has
+/// changed.
 fn go_through(profile: Profile, program: &[u64], handled: bool, table: &mut [CodeRow]) -> bool {
     let mut changed = false;
     for place in (0..table.len()).rev() {
@@ -55,7 +56,7 @@ fn go_through(profile: Profile, program: &[u64], handled: bool, table: &mut [Cod
     changed
 }
 
-/// What is asked for from a word on, by what is asked for behind it.
+/// What is asked for from a word on, by what is asked for at the places that can come next.
 fn row_of(word: Option<Insn>, handled: bool, table: &[CodeRow], place: u32) -> CodeRow {
     let mut row = [handled; 4];
     if let Some(insn) = word {

@@ -157,7 +157,8 @@ fn word_at(program: &[u64], place: u32) -> Option<u64>
     program.get(place as usize).copied()
 }
 
-/// Whether the row of a place has all codes that may be asked for from there on, by the rows of the places behind it.
+/// Whether the row of a place has all codes that may be asked for from there on, by the rows of the places that can
+/// come next.
 fn has_codes_at(
     profile: Profile,
     program: &[u64],

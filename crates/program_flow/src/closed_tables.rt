@@ -91,7 +91,7 @@ fn covers_next(row: &[bool], insn: &Insn, place: u32, table: &[Row]) -> bool
     }
 }
 
-/// Whether the row of a place has all that may be read from there on, by the rows of the places behind it.
+/// Whether the row of a place has all that may be read from there on, by the rows of the places that can come next.
 fn is_closed_at(profile: Profile, program: &[u64], handled: bool, table: &[Row], place: u32) -> bool
     ensures { IsTrue result → IsClosedAt (IsTrue handled) (λ k r. IsTrue (is_live_at table.now k r)) place
         (fetch_word profile (slice_get program.now place)) }

@@ -43,7 +43,8 @@ pub fn live_table(
     Ok(Vec::new(alloc))
 }
 
-/// Makes each row anew by those behind it, the last one first, and says whether one has changed.
+/// Computes each row again from the rows of the places that can come next, the last row first, and says whether one has
+/// changed.
 fn go_through(
     profile: Profile,
     program: &[u64],
@@ -67,7 +68,7 @@ fn go_through(
     changed
 }
 
-/// What is live at a word by what is live behind it.
+/// What is live at a word, by what is live at the places that can come next.
 fn row_of(word: Option<Insn>, handled: bool, table: &[Row], place: u32) -> Row {
     let mut row = [true; 32];
     match word {

@@ -1,4 +1,4 @@
-//! What is wished of a program alone, whatever its schedule: read by names, and judged of an image ("Expectations",
+//! What is required of a program alone, whatever its schedule: read by names, and judged of an image ("Expectations",
 //! docs/FORMATS.md).
 #![tactic(auto)]
 

@@ -91,7 +91,7 @@ fn where_holding(condition: Condition, next: u32, place: u32) -> Successors
     }
 }
 
-/// The place so many words behind the next one, modulo 2^32.
+/// The place so many words after the next one, modulo 2^32.
 fn skipped(place: u32, words: i8) -> u32
     ensures { result ≡ skip_pc place words }
 {

@@ -8,7 +8,7 @@ use image_file::Image;
 use std::alloc::{AllocError, Global};
 
 /// The first place of each row of words of an image's program that no stream comes to, as far as the program alone
-/// tells: in no world that a schedule of the image leads to a running stream stands there.
+/// shows: in no world that a schedule of the image leads to a running stream stands there.
 pub fn unreached_rows(alloc: Global, image: &Image) -> Result<Vec<usize>, AllocError>
     ensures { IfOk result (λ rows. All (IsNeverReached image.now) rows.items) }
 {

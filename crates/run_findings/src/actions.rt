@@ -112,8 +112,8 @@ pub(crate) fn op_reads(op: MemOp) -> bool
     }
 }
 
-/// Whether a stream learns by an operation what others did to its word, which was full or empty: STORE tells it that the
-/// word had been emptied, where it was.
+/// Whether a stream learns by an operation what others did to its word, which was full or empty. STORE shows only that
+/// the word had been emptied, if it was.
 pub(crate) fn op_hears(op: MemOp, full: bool) -> bool
     ensures { result ≡ op_hears op full }
 {

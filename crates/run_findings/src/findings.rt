@@ -16,11 +16,11 @@ use std::alloc::{AllocError, Global};
 /// What is found in a run (docs/FINDINGS.md).
 #[derive(Drop)]
 pub struct Findings {
-    /// Its lost updates, as [`lost_updates`](crate::lost_updates) tells them.
+    /// Its lost updates, as [`lost_updates`](crate::lost_updates) finds them.
     pub lost: Vec<LostUpdate>,
-    /// Its unread stores, as [`unread_stores`](crate::unread_stores) tells them.
+    /// Its unread stores, as [`unread_stores`](crate::unread_stores) finds them.
     pub unread: Vec<UnreadStore>,
-    /// Its torn reads, as [`torn_reads`](crate::torn_reads) tells them, if they were looked for.
+    /// Its torn reads, as [`torn_reads`](crate::torn_reads) finds them, if they were looked for.
     pub torn: Vec<TornRead>,
 }
 

@@ -1,4 +1,4 @@
-//! What went wrong in a run, told from what each step read and wrote: lost updates, unread stores and torn reads
+//! What went wrong in a run, by what each of its steps read and wrote: lost updates, unread stores and torn reads
 //! (docs/FINDINGS.md).
 #![tactic(auto)]
 

@@ -45,7 +45,7 @@ impl Round {
         start
     }
 
-    /// The first step that may belong to one after step `step`, as far as that step tells.
+    /// The first step that may belong to one after step `step`, as far as that step shows.
     fn opening(self, actions: &[Action], past_writes: &[Option<usize>], step: usize) -> usize
         requires step_in { step < length actions.now }
         requires linked { AreWrites actions.now past_writes.now }

@@ -41,7 +41,7 @@ impl Fair {
     }
 }
 
-/// The first of the running streams whose processor stands behind that of the last step, else the first of them.
+/// The first of the running streams whose processor comes after that of the last step, else the first of them.
 fn next_of_later(last: Option<Step>, running: &[Step]) -> Option<Step>
     ensures { result ≡ next_behind is_of_later last running.now }
 {
@@ -54,7 +54,7 @@ fn first_of_later(last: Option<Step>, running: &[Step]) -> Option<Step>
     running.iter().copied().find(|u| is_of_later(last, *u))
 }
 
-/// Whether a step's processor stands behind that of the last one.
+/// Whether a step's processor comes after that of the last one.
 fn is_of_later(last: Option<Step>, step: Step) -> bool
     ensures { result ≡ is_behind_last is_of_later last step }
 {
@@ -64,7 +64,7 @@ fn is_of_later(last: Option<Step>, step: Step) -> bool
     }
 }
 
-/// The first of the processor's running streams that stands behind its last step, else the first of them.
+/// The first of the processor's running streams that comes after its last step, else the first of them.
 fn next_of(p: u8, last: Option<Step>, running: &[Step]) -> Option<Step>
     ensures { result ≡ next_behind is_behind last (of_processor p running.now) }
 {

@@ -1,4 +1,4 @@
-//! What is seen of a stream before and after its step, and what that tells of the step.
+//! What is seen of a stream before and after its step, and what that shows of the step.
 
 ghost use Rattle.std.specs.Prelude.{◌≡◌};
 ghost use Rattle.machine.specs.MachineValue.{IsMachine};

@@ -15,10 +15,10 @@ use crate::seeds::chooser_of_seed;
 use machine::Machine;
 use std::alloc::{AllocError, Global};
 
-/// Takes the streams in rounds: at each step the next running stream behind the one that stepped last, in the order of
+/// Takes the streams in rounds: at each step the next running stream after the one that stepped last, in the order of
 /// processor and stream, and from the first again. It begins with the first.
 ///
-/// It ends when no stream runs, when nobody can go on, or after `most` steps: the machine stands there then. Where
+/// It ends when no stream runs, when no stream can go on, or after `most` steps: the machine stands there then. If
 /// memory is refused, some steps were taken.
 pub fn rounds<const S: usize>(
     alloc: Global,
@@ -32,7 +32,7 @@ pub fn rounds<const S: usize>(
 }
 
 /// The same fairly: the processors in turn, and of each its streams in turn. At each step the next processor that has a
-/// running stream, behind the one that stepped last; of it the next running stream behind the one of it that stepped
+/// running stream, after the one that stepped last; of it the next running stream after the one of it that stepped
 /// last, as a processor that runs on a thread takes its own.
 pub fn fair<const S: usize>(
     alloc: Global,

@@ -6,14 +6,14 @@ ghost use Rattle.schedule_makers.specs.Rules.{is_behind, is_behind_last, next_be
 use crate::steps_at::step_at;
 use processor::Step;
 
-/// The next one behind the last step in the order of processor and stream, and from the first again.
+/// The next one after the last step in the order of processor and stream, and from the first again.
 pub(crate) fn next_in_rounds(made: &[Step], running: &[Step]) -> Option<Step>
     ensures { result ≡ choice_in_rounds made.now running.now }
 {
     next_behind(made.last().copied(), running)
 }
 
-/// The first of the running streams that stands behind the last step, else the first of them.
+/// The first of the running streams that comes after the last step, else the first of them.
 fn next_behind(last: Option<Step>, running: &[Step]) -> Option<Step>
     ensures { result ≡ next_behind is_behind last running.now }
 {
@@ -26,7 +26,7 @@ fn first_behind(last: Option<Step>, running: &[Step]) -> Option<Step>
     running.iter().copied().find(|u| is_behind_last(last, *u))
 }
 
-/// Whether a step stands behind the last one in the order of processor and stream.
+/// Whether a step comes after the last one in the order of processor and stream.
 pub(crate) fn is_behind_last(last: Option<Step>, step: Step) -> bool
     ensures { result ≡ is_behind_last is_behind last step }
 {

@@ -59,9 +59,9 @@ impl<'i> Found<'i> {
         }
     }
 
-    /// Takes steps of the streams that run, first the quiet ones that can be taken before all others: where one of these
-    /// leads to a later place the others wait. What goes round by such steps has one that leads back, so nobody waits
-    /// for ever.
+    /// Takes steps of the streams that run, first the quiet ones that can be taken before all others: if one of these
+    /// leads to a later place, the others wait. A cycle of such steps has one that leads back, so no stream waits
+    /// forever.
     fn take_enough<const S: usize>(
         &mut self,
         machines: &mut KeptMachines<'i, S>,
@@ -95,7 +95,7 @@ impl<'i> Found<'i> {
     }
 
     /// Takes one step if it is quiet and can be taken before all others, and says whether it is so and leads to a later
-    /// place; else puts it behind the others.
+    /// place; else adds it to the others.
     fn take_free<const S: usize>(
         &mut self,
         machines: &mut KeptMachines<'i, S>,

@@ -220,7 +220,7 @@ fn bound_of(stop: Stop) -> Bound
     }
 }
 
-/// About how many bytes a search holds, whose machines have so many each behind them.
+/// About how many bytes a search holds, if each of its machines owns so many.
 fn bytes_held<const S: usize>(
     found: &Found<'_>,
     machines: &KeptMachines<'_, S>,
@@ -233,7 +233,7 @@ fn bytes_held<const S: usize>(
         .saturating_add(behind)
 }
 
-/// About how many bytes are behind a machine of an image: its processors, and its words with their tags.
+/// About how many bytes a machine of an image owns: its processors, and its words with their tags.
 fn bytes_of_machine<const S: usize>(image: &Image) -> usize {
     let processors = image.processors().saturating_mul(size_of::<Processor<S>>());
     let words = image.cells().len().saturating_mul(BYTES_OF_WORD);

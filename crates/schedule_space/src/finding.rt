@@ -1,5 +1,5 @@
-//! A space in the making: worlds are told apart by their keys, which are those of the worlds with 0 in each register that
-//! does not matter.
+//! A space in the making: worlds are distinguished by their keys, which are those of the worlds with 0 in each register
+//! that does not matter.
 
 ghost use Rattle.std.specs.Prelude.{◌≡◌, ◌<◌, ◌≤◌, ◌+◌, [], ◌∷◌, ◌++◌, length, Some, Err, IfOk, IfSome, OnOk, OnErr};
 ghost use Rattle.std.specs.Prelude.{Contains};
@@ -168,7 +168,7 @@ impl<'i> Found<'i> {
         )
     }
 
-    /// Puts an edge behind the others, that is not there yet.
+    /// Puts an edge that is not there yet after the others.
     pub(crate) fn add_edge(&mut self, edge: Edge) -> Result<(), AllocError>
         requires edge { IsEdgeToStandIn self.old edge }
         requires new { ¬ (Contains self.old.edges edge) }
@@ -205,8 +205,8 @@ impl<'i> Found<'i> {
     }
 
     /// The place of a world that stands for the one to which a step leads from the world at a place. A new world is put
-    /// behind the others, and a machine at it behind those that are kept: where it is known how it goes on from there,
-    /// only one that needs no copy.
+    /// after the others, and a machine at it after those that are kept: if it is known how it goes on from there, only
+    /// one that needs no copy.
     pub(crate) fn place<const S: usize>(
         &mut self,
         machines: &mut KeptMachines<'i, S>,
@@ -270,7 +270,8 @@ impl<'i> Found<'i> {
     }
 }
 
-/// How it goes on from a world, where its key tells; where ends are looked for, each world is to have its machine.
+/// How it goes on from a world, if its key shows that; None in a search for ends, in which each world is to have its
+/// machine.
 fn known_fate(
     seen: &mut SearchKnowledge,
     running: &mut Vec<Step>,
@@ -300,8 +301,8 @@ struct NextWorld<'i, const S: usize> {
     machine: Option<Machine<'i, S>>,
 }
 
-/// The world behind a step from the one at the end of a route: with a machine where it is not known how it goes on, or
-/// where one is at hand and let go, so that later worlds need not be made from the first.
+/// The world after a step from the one at the end of a route: with a machine if it is not known how it goes on, or if
+/// one is at hand and let go, so that later worlds need not be made from the first.
 fn next_world<'i, const S: usize>(
     alloc: Global,
     machines: &mut KeptMachines<'i, S>,
@@ -343,7 +344,7 @@ struct NewWorld<'i, const S: usize> {
     key: Vec<u32>,
 }
 
-/// Puts what belongs to a new world behind what belongs to the others: all of it, or nothing but its machine where memory
+/// Puts what belongs to a new world after what belongs to the others: all of it, or nothing but its machine if memory
 /// is refused.
 fn push_world<'i, const S: usize>(
     machines: &mut KeptMachines<'i, S>,

@@ -115,7 +115,7 @@ impl<'i, const S: usize> KeptMachines<'i, S> {
         self.here.as_ref()
     }
 
-    /// A machine at the world behind a step from the one at hand: this itself, where it is let go, else a copy of it.
+    /// A machine at the world after a step from the one at hand: this one itself if it is let go, else a copy of it.
     pub(crate) fn next(&mut self, step: Step, is_let_go: bool) -> Result<Machine<'i, S>, AllocError>
         requires { IsSome self.old.here }
         ensures next { (m : MachineValue) → self.old.here ≡ Some m
@@ -135,7 +135,7 @@ impl<'i, const S: usize> KeptMachines<'i, S> {
         moved_if_let_go(&mut self.here, step, is_let_go)
     }
 
-    /// Keeps a machine for a later place, behind the others.
+    /// Keeps a machine for a later place, after the others.
     pub(crate) fn push(&mut self, place: u32, machine: Machine<'i, S>) -> Result<(), AllocError>
         ensures { OnOk result (self.new ≡ record self.old {
           places = self.old.places ++ place ∷ [];

@@ -1,4 +1,4 @@
-//! What the key of a world tells of its streams: which of them run, and how it goes on from the world.
+//! What the key of a world shows of its streams: which of them run, and how it goes on from the world.
 
 ghost use Rattle.std.specs.Prelude.{◌≡◌, ◌≢◌, ◌<◌, ◌+◌, ◌*◌, ◌⊎◌, ℕ, [], true, length, Some, IsTrue, IfSome, IfOk, OnOk, Contains};
 ghost use Rattle.std.specs.Prelude.{slice_get};

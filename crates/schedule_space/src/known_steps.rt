@@ -20,7 +20,7 @@ pub(crate) struct Places {
     pub(crate) memory: u32,
 }
 
-/// Steps that were taken, each told by numbers, with the places behind it.
+/// Steps that were taken, each named by numbers, with the places of what it left.
 #[derive(Drop)]
 pub(crate) struct KnownSteps {
     asked: Table,

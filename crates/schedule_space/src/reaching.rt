@@ -12,7 +12,7 @@ use std::alloc::{AllocError, Global};
 
 impl Space<'_> {
     /// For the world at each place, whether some schedule leads from it to an end, a world in which no stream runs or
-    /// none that runs can go on. From those where this is false each schedule goes on for ever.
+    /// none that runs can go on. From those for which this is false each schedule goes on forever.
     ///
     /// Of a complete space, also of one for ends, each answer is exact; of one that was bounded only those that are
     /// true are known.

@@ -7,7 +7,7 @@ use crate::links::Link;
 use processor::Step;
 use std::alloc::{AllocError, Global};
 
-/// The place of a world in a space, with what tells its schedule: the one with which all begin, and the links.
+/// The place of a world in a space, with what its schedule is read from: the one with which all begin, and the links.
 #[derive(Clone, Copy)]
 pub(crate) struct Route<'a> {
     pub(crate) begin: &'a [Step],
@@ -40,7 +40,7 @@ pub(crate) fn schedule_by(alloc: Global, route: Route<'_>) -> Result<Vec<Step>, 
     Ok(schedule)
 }
 
-/// Its steps behind those of the beginning, the last first.
+/// Its steps after those of the beginning, the last first.
 pub(crate) fn steps_back(alloc: Global, route: Route<'_>) -> Result<Vec<Step>, AllocError>
     requires { IsRoute route.links.now route.place }
     ensures { IfOk result (λ v. route.entry.begin.now ++ reverse v.items

@@ -57,7 +57,7 @@ pub(crate) fn stepped<'i, const S: usize>(
     Ok(next)
 }
 
-/// A machine at the world behind a step: the machine itself, moved on, where it is let go, else a copy of it.
+/// A machine at the world after a step: the machine itself, moved on, if it is let go, else a copy of it.
 ///
 /// Not inlined: its caller would pay for the room of its machines at each step, also where no machine is made.
 #[inline(never)]

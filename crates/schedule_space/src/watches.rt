@@ -7,9 +7,9 @@ pub trait Watch {
     /// What is so of one that has ended a search.
     ghost HasEnded: { Self → Type 0 };
 
-    /// Whether a search goes on. It has found so many worlds, of which so many still wait behind the next to have their
-    /// steps taken, and holds about so many bytes. It is asked before the steps of the first world are taken, and of each
-    /// sixteenth behind it.
+    /// Whether a search goes on. It has found so many worlds, of which so many still wait after the next one to have
+    /// their steps taken, and holds about so many bytes. It is asked before the steps of the first world are taken, and
+    /// before those of each sixteenth world after it.
     fn goes_on(&mut self, found: usize, waiting: usize, bytes: usize) -> bool
         ensures { IsFalse result → HasEnded self.new };
 }

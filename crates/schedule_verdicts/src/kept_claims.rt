@@ -49,8 +49,8 @@ fn is_kept<const S: usize>(
     Ok(true)
 }
 
-/// Whether claims hold of each world on the way through a schedule of an image: of the first one, and of that behind each
-/// step.
+/// Whether claims hold of each world on the way through a schedule of an image: of the first one, and of that after
+/// each step.
 ///
 /// `Streams` exactly where the image's slim is above `S`.
 pub fn are_kept_on_the_way<const S: usize>(

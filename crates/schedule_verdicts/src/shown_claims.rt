@@ -65,7 +65,7 @@ fn is_shown<const S: usize>(
     Ok(false)
 }
 
-/// Whether some world on the way through a schedule of an image shows a claim: the first one, or that behind some step.
+/// Whether some world on the way through a schedule of an image shows a claim: the first one, or that after some step.
 ///
 /// `Streams` exactly where the image's slim is above `S`.
 pub fn is_shown_on_the_way<const S: usize>(

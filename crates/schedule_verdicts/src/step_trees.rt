@@ -3,8 +3,8 @@
 use busy_streams::space::{Edge, Space};
 use std::alloc::{AllocError, Global};
 
-/// For each place of a space the edge by which a walk comes there, and the first of the edges that lead on from there, as
-/// numbers. Each of these edges leads on from an earlier place: so no walk goes round. From each place one leads on, where
+/// For each place of a space the edge by which a walk comes there, and the first of the edges that lead on from there,
+/// as numbers. Each of these edges leads on from an earlier place: so no walk loops. From each place one leads on, if
 /// one can that no earlier place has taken: so a walk has few places from which none does.
 #[derive(Drop)]
 pub(crate) struct StepTree {
@@ -27,7 +27,7 @@ impl StepTree {
         };
         let mut last = None;
         for (number, edge) in space.edges().iter().enumerate() {
-            // what is behind the last number is left out
+            // what comes after the last number is left out
             let Ok(number) = u32::try_from(number) else {
                 return Ok(tree);
             };

@@ -89,8 +89,8 @@ impl<'s, 'i, const S: usize> Walk<'s, 'i, S> {
         &self.machine
     }
 
-    /// Goes on: its machine along the first edge that leads on, and copies of it wait behind the others. If none leads on, it
-    /// comes to a place that waits; false if none does.
+    /// Goes on: its machine along the first edge that leads on, and copies of it wait where the other edges lead. If
+    /// none leads on, it comes to a place that waits; false if none does.
     pub(crate) fn go_on(&mut self, alloc: Global) -> Result<bool, LoadFault>
         ensures space { OnOk result (self.new.space ≡ self.old.space) }
         ensures streams { result ≡ Err LoadFault.Streams → S < self.old.space.image.slim }

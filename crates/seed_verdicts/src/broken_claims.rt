@@ -21,7 +21,7 @@ pub struct Broken {
 }
 
 /// The first claim that is broken on the way through a schedule of an image: the first one that does not hold of the
-/// first world of which some claim does not. The start and the end are on the way. Nothing behind that world is looked at.
+/// first world of which some claim does not. The start and the end are on the way. Nothing after that world is checked.
 ///
 /// `Streams` only where the image's slim is above `S`.
 pub fn first_broken<const S: usize>(

@@ -1,11 +1,11 @@
 //! What is wrong with a run.
 
-/// What is wrong with a run. The order is that in which one is told where a run shows several.
+/// What is wrong with a run. If a run shows several flaws, the first in this order is reported.
 #[derive(Clone, Copy, Debug, PartialEq, Eq)]
 pub enum RunFlaw {
     /// At its end a trap that nobody expected has stopped a stream.
     Trap,
-    /// Nobody can go on.
+    /// Some stream runs, and none that runs can go on.
     Deadlock,
     /// No stream runs, and the end misses an expectation.
     Missed {
@@ -35,7 +35,7 @@ pub struct SeedFlaw {
 /// Which seeds are tried.
 #[derive(Clone, Copy, Debug)]
 pub struct Seeds {
-    /// The first of them. Behind the greatest seed comes 0.
+    /// The first of them. After the greatest seed comes 0.
     pub first: u64,
     /// How many they are.
     pub count: usize,

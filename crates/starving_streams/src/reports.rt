@@ -1,8 +1,8 @@
-//! What is said of the streams that can wait for ever.
+//! What is said of the streams that can wait forever.
 
 use processor::Step;
 
-/// A stream that can wait for ever, and how: a schedule, and steps that can follow it again and again.
+/// A stream that can wait forever, and how: a schedule, and steps that can follow it again and again.
 #[derive(Drop)]
 pub struct Starving {
     /// The stream.
@@ -13,7 +13,7 @@ pub struct Starving {
     pub round: Vec<Step>,
 }
 
-/// Which streams of a program can wait for ever.
+/// Which streams of a program can wait forever.
 #[derive(Drop)]
 pub struct StarvingStreams {
     /// Those that can, each once.

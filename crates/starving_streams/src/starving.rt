@@ -1,4 +1,4 @@
-//! The streams of a program that can wait for ever.
+//! The streams of a program that can wait forever.
 
 ghost use Rattle.std.specs.Prelude.{◌≡◌, map, IfOk, OnOk};
 ghost use Rattle.starving_streams.specs.Reports.{HasAllStates, TellsWhoStarves};
@@ -13,10 +13,10 @@ use processor::Step;
 use schedule_space::Space;
 use std::alloc::{AllocError, Global};
 
-/// The streams that can wait for ever: some schedule leads to a round that is fair by words, in which the stream runs
-/// throughout and each of its steps is Blocked. That is so of a space that has all worlds and all steps between them: of
-/// each such stream a shortest schedule to the world of its round and the round are shown, and if none is shown or left
-/// undecided, nobody can wait for ever.
+/// The streams that can wait forever: some schedule leads to a round that is fair by words, in which the stream runs
+/// throughout and each of its steps is Blocked. That is so of a space that has all worlds and all steps between them:
+/// of each such stream a shortest schedule to the world of its round and the round are shown, and if none is shown or
+/// left undecided, no stream can wait forever.
 pub fn starving_streams<const S: usize>(
     alloc: Global,
     space: &Space<'_>,
@@ -58,7 +58,7 @@ fn add_answer(
 pub(crate) enum StreamAnswer {
     /// It starves in this round.
     Starves(Starving),
-    /// It can't wait for ever.
+    /// It can't wait forever.
     Never,
     /// It is not known whether it can.
     Undecided,

@@ -43,8 +43,8 @@ pub struct StepView {
     pub changes: Vec<Change>,
 }
 
-/// Takes a step, as [`Machine::step`] does, and tells what it did: the changes are exactly the differences between the
-/// world before it and the world after it. `Err` comes before the step: the machine is as it was.
+/// Takes a step, as [`Machine::step`] does, and reports what it did: the changes are exactly the differences between
+/// the world before it and the world after it. `Err` comes before the step: the machine is as it was.
 pub fn take_step<const S: usize>(
     alloc: Global,
     machine: &mut Machine<'_, S>,

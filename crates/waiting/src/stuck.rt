@@ -11,7 +11,7 @@ use stream_core::Stream;
 use tag_memory::Reply;
 
 /// Whether stream `s` of processor `p` runs, and its step is Blocked and leaves the world as it is: so it is tried in
-/// vain for ever, unless another stream changes what it finds. A stream whose retry count still grows, or that would
+/// vain forever, unless another stream changes what it finds. A stream whose retry count still grows, or that would
 /// trap, is not stuck ("Retries", docs/MACHINE.md).
 pub fn is_stuck<const S: usize>(machine: &Machine<'_, S>, p: u8, s: u8) -> bool
     ensures { IsTrue result ↔ IsStuck machine.now.image machine.now.world (record { p = p; s = s }) }
@@ -36,7 +36,7 @@ fn is_kept_by(limit: u32, stream: &Stream, reply: Reply) -> bool
     }
 }
 
-/// Whether some stream runs and each that runs is stuck: nobody can go on. Then no schedule changes anything, for ever.
+/// Whether it is a deadlock: some stream runs, and each that runs is stuck. Then no schedule ever changes anything.
 pub fn is_standstill<const S: usize>(machine: &Machine<'_, S>) -> bool
     ensures is { IsTrue result ↔ IsStandstill machine.now.image machine.now.world }
     ensures for_ever { IsTrue result → StaysForEver machine.now.image machine.now.world }

@@ -1,4 +1,4 @@
-//! What a stream waits for, as it is told.
+//! What a stream waits for, as it is reported.
 
 /// The state that a reference wants of a word ("The full/empty table", docs/MACHINE.md).
 #[derive(Clone, Copy, Debug, PartialEq, Eq)]
@@ -12,7 +12,7 @@ pub enum Wanted {
 /// What a stream waits for.
 #[derive(Clone, Copy, Debug, PartialEq, Eq)]
 pub struct Wait {
-    /// The byte address of the word where its request ends, behind all that forward it.
+    /// The byte address of the word where its request ends, after all words that forward it.
     pub address: u64,
     /// The state that would let its request through there. The word is in the other one.
     pub wanted: Wanted,

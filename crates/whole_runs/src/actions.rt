@@ -1,4 +1,4 @@
-//! What the steps of a run did, as findings are told of them.
+//! What the steps of a run did, from which findings are computed.
 
 ghost use Rattle.std.specs.Prelude.{◌≡◌, IfOk, OnOk};
 ghost use Rattle.processor.specs.World.{steps, after};
@@ -16,7 +16,7 @@ use step_views::{Content, Place, Reference, StreamPart, content_of, reference_of
 use stream_core::Outcome;
 use tag_memory::{Reply, Word};
 
-/// Takes the steps of a schedule from whatever state the machine has reached, and tells what each of them did to its
+/// Takes the steps of a schedule from whatever state the machine has reached, and reports what each of them did to its
 /// stream and to the word at which its reference ended: one action a step, in their order.
 pub fn run_actions<const S: usize>(
     alloc: Global,
@@ -36,8 +36,8 @@ pub fn run_actions<const S: usize>(
     Ok(actions)
 }
 
-/// Takes a step, as [`Machine::step`] does, and tells what it did to its stream and to the word at which its reference
-/// ended.
+/// Takes a step, as [`Machine::step`] does, and reports what it did to its stream and to the word at which its
+/// reference ended.
 pub fn take_action<const S: usize>(machine: &mut Machine<'_, S>, step: Step) -> Action
     ensures action { result ≡ action_of machine.old.image machine.old.world step }
     ensures world { machine.new.world ≡ after machine.old.image machine.old.world step }

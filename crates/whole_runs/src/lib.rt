@@ -1,5 +1,5 @@
-//! Whole runs, step by step: the views of the steps, and what the steps did to their streams and words, of which findings
-//! are told (docs/FINDINGS.md).
+//! Whole runs, step by step: the views of the steps, and what the steps did to their streams and words, from which
+//! findings are computed (docs/FINDINGS.md).
 #![tactic(auto)]
 
 mod actions;

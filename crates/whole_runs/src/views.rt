@@ -9,8 +9,8 @@ use processor::Step;
 use std::alloc::{AllocError, Global};
 use step_views::{StepView, take_step};
 
-/// Takes the steps of a schedule from whatever state the machine has reached, and tells what each of them did: the views
-/// are those of the steps, one each in their order, and none is left out.
+/// Takes the steps of a schedule from whatever state the machine has reached, and reports what each of them did: the
+/// views are those of the steps, one each in their order, and none is left out.
 pub fn run_views<const S: usize>(
     alloc: Global,
     machine: &mut Machine<'_, S>,

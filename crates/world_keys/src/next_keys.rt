@@ -166,8 +166,8 @@ fn numbers_without(
     Ok(numbers)
 }
 
-/// Which of the marks in a processor's numbers, which stand in twos behind the first number, is that of this stream;
-/// None where it has none, since the stream is idle. A mark is the stream's number and the place of what it holds.
+/// Which of the marks in a processor's numbers, which stand in pairs after the first number, is that of this stream;
+/// None if it has none, since the stream is idle. A mark is the stream's number and the place of what it holds.
 pub fn mark_of(numbers: &[u32], s: u8) -> Option<usize>
     ensures within { IfSome result (λ k. 2 * k + 2 < length numbers.now) }
     ensures mark { IfSome result (λ k. slice_get numbers.now (2 * k + 1) ≡ Some s) }

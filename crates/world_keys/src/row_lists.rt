@@ -8,7 +8,7 @@ use std::alloc::{AllocError, Global};
 use std::marker::Model;
 use std::mem::size_of;
 
-/// Lists of numbers of 32 bits, one behind another. Contracts see the list of them.
+/// Lists of numbers of 32 bits, one after the other. Contracts see the list of them.
 #[derive(Drop)]
 pub(crate) struct RowLists {
     numbers: Vec<u32>,
@@ -54,7 +54,7 @@ impl RowLists {
         Some(list_at(&self.numbers, &self.ends, place))
     }
 
-    /// Puts a list behind the others.
+    /// Puts a list after the others.
     pub(crate) fn push(&mut self, list: &[u32]) -> Result<(), AllocError>
         ensures pushed { OnOk result (self.new ≡ self.old ++ list.now ∷ []) }
         ensures stays { OnErr result (self.new ≡ self.old) }

@@ -65,7 +65,7 @@ impl Table {
         self.lists.list(place)
     }
 
-    /// Puts a list that the table does not have behind the others.
+    /// Puts a list that the table does not have after the others.
     pub fn push(&mut self, list: &[u32]) -> Result<(), AllocError>
         requires { ¬ (Has self.old list.now) }
         ensures pushed { OnOk result (self.new ≡ self.old ++ list.now ∷ []) }
@@ -84,7 +84,7 @@ impl Table {
         Ok(())
     }
 
-    /// The place of a list, which is put behind the others where the table does not have it.
+    /// The place of a list, which is put after the others if the table does not have it.
     pub fn place(&mut self, list: &[u32]) -> Result<u32, AllocError>
         ensures place { IfOk result (λ k. k ≡ place_in self.new list.now) }
         ensures there { OnOk result (Has self.new list.now) }
