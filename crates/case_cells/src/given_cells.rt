@@ -9,9 +9,9 @@ use insn_word::Profile;
 use std::alloc::{AllocError, Global};
 use tag_memory::Word;
 
-/// The image that a case with these cells makes of another one. Its profile and limits, its entries and its program are the
-/// other's. At each of the places its cells are those of the case, and else the other's own. Without places they are the
-/// case's, from the first word on, and behind these what the other has more.
+/// The image that a case with these cells makes of another one. Its profile and limits, its entries and its program are
+/// the other's. At each of the places its cells are those of the case, and else the other's own. Without places they
+/// are the case's, from the first word on, and after these the further ones that the other has.
 pub fn image_with_cells(
     alloc: Global,
     image: &Image,
@@ -33,7 +33,7 @@ pub fn image_with_cells(
     }
 }
 
-/// The cells of a case, and behind them those that a submission has more.
+/// The cells of a case, and after them the further ones that a submission has.
 fn cells_by_position(alloc: Global, given: &[Word], own: &[Word]) -> Result<Vec<Word>, AllocError>
     ensures { IfOk result (λ v. v.items ≡ cells_by_position given.now own.now) }
 {

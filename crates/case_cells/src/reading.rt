@@ -12,7 +12,7 @@ use asm_text::{AsmFault, Fault, assemble};
 use image_file::Image;
 use std::alloc::{AllocError, AllocFailed, Global};
 
-/// What stands behind the lines of cells, so that the assembler reads them as a program's.
+/// What is put after the lines of cells, so that the assembler reads them as a program's.
 const PROGRAM_BEHIND: &[u8] = b"\n .entry 0\n QUIT\n";
 
 /// Why a text says no cells.
@@ -62,7 +62,7 @@ pub fn read_cells(alloc: Global, text: &[u8]) -> Result<Image, CellsFault>
     }
 }
 
-/// The source text that has these lines and a program of one word behind them.
+/// The source text that has these lines and a program of one word after them.
 pub fn program_of_cells(alloc: Global, text: &[u8]) -> Result<Vec<u8>, AllocError>
     ensures { IfOk result (λ v. v.items ≡ text.now ++ program_behind) }
 {

@@ -16,8 +16,8 @@ pub struct TextEdit {
     pub text: Vec<u8>,
 }
 
-/// A text after all edits, which are of the text as it is before any of them. None where they are not in order, or overlap,
-/// or stand behind its end. Only memory can be missing.
+/// A text after all edits, which are of the text as it is before any of them. None if they are not in order, or
+/// overlap, or reach past its end. Only memory can be missing.
 pub fn edited(alloc: Global, text: &[u8], edits: &[TextEdit]) -> Result<Option<Vec<u8>>, AllocError>
     ensures is { IfOk result (λ o. IfSome o (λ t. t.items ≡ edited 0 text.now (edits_seen edits.now))) }
     ensures apart { IfOk result (λ o. IfSome o (λ t. IsTrue (are_apart 0 (length text.now) (edits_seen edits.now)))) }

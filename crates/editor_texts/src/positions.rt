@@ -43,8 +43,8 @@ pub fn units_before(line: &[u8], place: usize) -> usize
     }
 }
 
-/// The last place of a line, by its bytes, before which there are at most so many units: behind the line's end it is the
-/// end, and inside of a character its begin.
+/// The last place of a line, by its bytes, before which there are at most so many units: past the line's end it is the
+/// end, and inside a character its beginning.
 pub fn byte_at(line: &[u8], most: usize) -> usize
     ensures within { result ≤ length line.now }
     ensures few { units_before line.now result ≤ most }

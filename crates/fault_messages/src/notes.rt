@@ -7,7 +7,7 @@ use crate::message::{Message, Severity, Spot};
 use plain_text::TextWriter;
 use std::alloc::{AllocError, Global};
 
-/// How many faults of a text, or warnings of it, are told at most: no more are looked for.
+/// How many faults of a text, or warnings of it, are reported at most: no more are looked for.
 pub const MOST_FOUND: usize = 10_000;
 
 /// How many suggestions of names are looked for in one text, each among many.
@@ -23,7 +23,7 @@ struct Note {
 }
 
 impl Note {
-    /// The message that tells it.
+    /// The message that reports it.
     fn message(self, severity: Severity) -> Message
         ensures { result.severity ≡ severity }
     {
@@ -82,7 +82,7 @@ impl Notes {
         self.found.len()
     }
 
-    /// Whether as much is found as is told: what is looked for further is not.
+    /// Whether as much is found as is reported at most: nothing that is found from then on is reported.
     pub fn is_full(&self) -> bool
         ensures { IsTrue result → 0 < vec_len self.now.found }
     {
@@ -140,7 +140,7 @@ impl Notes {
         }
     }
 
-    /// Tells what is found by messages after others.
+    /// Reports what is found, by messages after others.
     pub fn tell(self, severity: Severity, messages: &mut Vec<Message>) -> Result<(), AllocError>
         ensures { OnOk result (has_error messages.new.items
             ≡ (has_error messages.old.items || (is_error severity && nat_lt 0 (vec_len self.found)))) }

@@ -41,7 +41,7 @@ const TIMES: Counted = Counted {
     most: 1_000_000,
 };
 
-/// Tells what is wrong with a line, and answers what it says where that is understood. Carriage returns are told on the
+/// Notes what is wrong with a line, and answers what it says if that is understood. Carriage returns are noted on the
 /// first line that has one.
 pub(crate) fn note_fields<'t>(
     notes: &mut Notes,
@@ -79,7 +79,7 @@ pub(crate) fn note_fields<'t>(
     }))
 }
 
-/// Tells what is wrong with a number up to 255, and answers it where it is right.
+/// Notes what is wrong with a number up to 255, and answers it where it is right.
 fn note_byte(
     notes: &mut Notes,
     line: &TextLine,
@@ -92,7 +92,7 @@ fn note_byte(
     }
 }
 
-/// Tells what is wrong with what stands after a line's second number, and answers its third number.
+/// Notes what is wrong with what stands after a line's second number, and answers its third number.
 fn note_times(notes: &mut Notes, line: &TextLine, rest: Token) -> Result<Option<u64>, AllocError> {
     let (third, behind) = rest.cut(b' ');
     if let Some(behind) = behind {
@@ -103,7 +103,7 @@ fn note_times(notes: &mut Notes, line: &TextLine, rest: Token) -> Result<Option<
     note_number(notes, line, third, TIMES)
 }
 
-/// Tells that a line ends with a carriage return, if no line before it did, and answers the line without it.
+/// Notes that a line ends with a carriage return, if no line before it did, and answers the line without it.
 fn note_return<'t>(
     notes: &mut Notes,
     line: &TextLine<'t>,
@@ -125,7 +125,7 @@ fn note_return<'t>(
     Ok(token.before(token.bytes.len() - 1))
 }
 
-/// Tells that a line has something besides numbers and single spaces, if it has.
+/// Notes that a line has something besides numbers and single spaces, if it has.
 fn note_layout(notes: &mut Notes, line: &TextLine, token: Token) -> Result<bool, AllocError> {
     let Some(fault) = layout_fault(token) else {
         return Ok(false);
@@ -187,7 +187,7 @@ fn blank_place(token: Token) -> Option<usize> {
         .position(|pair| pair == [b' ', b' '].as_slice())
 }
 
-/// Tells what is wrong with a number, and answers it where it is right.
+/// Notes what is wrong with a number, and answers it where it is right.
 fn note_number(
     notes: &mut Notes,
     line: &TextLine,

@@ -49,7 +49,7 @@ fn refusal_of(alloc: Global, text: &[u8]) -> Result<Option<ScheduleFault>, Alloc
     }
 }
 
-/// Tells the faults of a text that is refused for one.
+/// Reports the faults of a text that is refused for one.
 fn tell_faults(
     faults: Notes,
     refusal: Option<ScheduleFault>,
@@ -99,7 +99,7 @@ fn note_lines(
     Ok(())
 }
 
-/// Tells that a line takes the steps, which are so many before it, past the limit, and answers how many they are then.
+/// Notes that a line takes the steps, which are so many before it, past the limit, and answers how many they are then.
 fn note_steps(
     notes: &mut Notes,
     line: &TextLine,

@@ -9,7 +9,7 @@ use std::alloc::{AllocError, Global};
 /// How many pairs of a processor's and a stream's number there are.
 const PAIRS: usize = 65_536;
 
-/// The processors and streams of a program, and which of a schedule are told as missing.
+/// The processors and streams of a program, and which streams of a schedule are reported as missing.
 #[derive(Drop)]
 pub(crate) struct Streams {
     processors: usize,
@@ -57,7 +57,7 @@ impl Streams {
         }
     }
 
-    /// Whether a stream was told already; from now on it is.
+    /// Whether a stream was reported already; from now on it is.
     fn is_told(&mut self, processor: u8, stream: u8) -> bool {
         let place = usize::from(processor) * 256 + usize::from(stream);
         if place < self.told.len() {

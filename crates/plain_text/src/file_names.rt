@@ -8,7 +8,7 @@ pub fn file_name(path: &str) -> &str {
     }
 }
 
-/// A path's last name, without what stands behind its last point.
+/// A path's last name, without its last point and what stands after it.
 pub fn stem_of(path: &str) -> &str {
     let name = file_name(path);
     match name.rsplit_once('.') {

@@ -27,7 +27,7 @@ impl TextWriter {
         }
     }
 
-    /// Takes a text, to add to it; it is empty until it is given back.
+    /// Takes a text, to add to it; it is empty until [`TextWriter::give_back`] puts there what is written.
     pub fn take(text: &mut String) -> TextWriter {
         let empty = String::new(*text.allocator());
         TextWriter {
@@ -90,7 +90,7 @@ impl TextWriter {
         }
     }
 
-    /// Adds pieces as they are, one behind the other.
+    /// Adds pieces as they are, one after the other.
     pub fn put_all(&mut self, pieces: &[&str]) {
         for piece in pieces {
             self.put(*piece);

@@ -34,7 +34,7 @@ pub(crate) fn add_names(
     Ok(())
 }
 
-/// The warning that tells that a name is not its line's.
+/// The warning that a name is not its line's.
 fn message_of(
     alloc: Global,
     text: &[u8],

@@ -17,7 +17,7 @@ pub(crate) fn add_slips(
     messages.sort_by_key(|message| (message.line, message.column))
 }
 
-/// The warning that tells a slip.
+/// The warning that reports a slip.
 fn message_of(slip: Slip) -> Message {
     let Slip {
         number,

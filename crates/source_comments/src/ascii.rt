@@ -49,7 +49,7 @@ fn in_ascii(byte: u8) -> u8
     if byte < 128 { byte } else { FOREIGN }
 }
 
-/// Whether the place behind a byte is in a comment, where that of the byte is, or is not.
+/// Whether the place after a byte is in a comment, if that of the byte is, or is not.
 fn inside_after(is_comment: bool, byte: u8) -> bool
     ensures { result ≡ inside_after is_comment byte }
 {

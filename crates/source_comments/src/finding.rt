@@ -30,7 +30,7 @@ pub fn foreign_comments(text: &[u8]) -> Option<ForeignComments> {
     found
 }
 
-/// What is found with one comment more, which stands on the line of this number behind so many bytes.
+/// What is found with one comment more, which stands on the line of this number after so many bytes.
 fn with_one(
     found: Option<ForeignComments>,
     line: &[u8],

@@ -29,7 +29,7 @@ pub(crate) fn propose_line(out: &mut Proposals, marked: &Marked) -> Result<(), A
     }
 }
 
-/// The edit that adds a statement on a line of its own behind the line that ends at a place.
+/// The edit that adds a statement on a line of its own after the line that ends at a place.
 fn line_behind(
     alloc: Global,
     text: &[u8],
@@ -45,7 +45,7 @@ fn line_behind(
     }
 }
 
-/// The edit that adds a statement on a line of its own behind the last line.
+/// The edit that adds a statement on a line of its own after the last line.
 fn last_line(alloc: Global, text: &[u8], statement: &str) -> Result<TextEdit, AllocError> {
     let line = match text.last() {
         Some(b'\n') | None => format!(in alloc; "{INDENT}{statement}\n")?,
@@ -122,7 +122,7 @@ fn propose_two_words(out: &mut Proposals, marked: &Marked) -> Result<(), AllocEr
     }
 }
 
-/// The edit that ends a line behind a piece, and begins the next one with another piece.
+/// The edit that ends a line after a piece, and begins the next one with another piece.
 fn split_between(
     alloc: Global,
     line: &SourceLine,

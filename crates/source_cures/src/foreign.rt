@@ -94,7 +94,7 @@ fn filled(
     }
 }
 
-/// Which operand a letter behind `%` stands for, from 0.
+/// Which operand the part after `%` stands for, from 0.
 fn place_of(part: &str) -> usize {
     if part.starts_with('1') {
         0
@@ -105,7 +105,7 @@ fn place_of(part: &str) -> usize {
     }
 }
 
-/// Adds an operand as the letter behind `%` has it, and answers whether it can be written so.
+/// Adds an operand as the letter after `%` has it, and answers whether it can be written so.
 fn push_operand(
     out: &Proposals,
     text: &mut String,

@@ -102,7 +102,7 @@ fn trimmed_length(piece: Token) -> usize {
     }
 }
 
-/// Proposes a semicolon in place of what begins a comment on other machines, at the mark or behind it.
+/// Proposes a semicolon in place of what begins a comment on other machines, at the mark or after it.
 fn propose_comment(out: &mut Proposals, marked: &Marked) -> Result<(), AllocError> {
     let rest = marked.line.whole.behind(marked.mark.start);
     for (place, byte) in rest.bytes.iter().enumerate() {
@@ -133,7 +133,7 @@ fn propose_small(out: &mut Proposals, marked: &Marked) -> Result<(), AllocError>
     out.write(&marked.line, marked.mark, text.as_str())
 }
 
-/// Proposes the mark without the zeros behind its first letter.
+/// Proposes the mark without the zeros after its first letter.
 fn propose_without_zeros(out: &mut Proposals, marked: &Marked) -> Result<(), AllocError> {
     let digits = marked.mark.behind(1);
     let zeros = digits.bytes.iter().position(|byte| *byte != b'0');

@@ -34,7 +34,7 @@ pub(crate) fn propose_number(out: &mut Proposals, marked: &Marked) -> Result<(),
     Ok(())
 }
 
-/// The number behind one of these sentences.
+/// The number that stands after one of these sentences.
 fn number_among<'t>(sentences: &[&str], help: &'t str) -> Option<&'t str> {
     for sentence in sentences {
         if let Some(number) = help.strip_prefix(*sentence) {

@@ -17,7 +17,7 @@ pub(crate) fn trimmed(piece: Token<'_>) -> Token<'_> {
     }
 }
 
-/// What stands before the first blank of a piece, and what stands behind it, without blanks at its ends.
+/// What stands before the first blank of a piece, and what stands after it, without blanks at its ends.
 pub(crate) fn split_head(piece: Token<'_>) -> (Token<'_>, Token<'_>) {
     match piece.bytes.iter().position(|byte| is_blank(*byte)) {
         Some(place) => (piece.before(place), trimmed(piece.behind(place))),

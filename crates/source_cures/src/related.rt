@@ -91,7 +91,7 @@ fn other_name(alloc: Global, marked: &Marked) -> Result<Option<Related>, AllocEr
     }
 }
 
-/// Where a name stands on a line, as its label or behind its semicolon.
+/// Where a name stands on a line, as its label or after its semicolon.
 fn name_on<'t>(line: &SourceLine<'t>, name: &[u8]) -> Option<Token<'t>> {
     match line.label() {
         Some(label) if trimmed(label).bytes == name => Some(trimmed(label)),

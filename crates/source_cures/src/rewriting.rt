@@ -74,7 +74,7 @@ fn propose_name(out: &mut Proposals, marked: &Marked, name: &str) -> Result<(), 
     out.write(&marked.line, marked.head(), name)
 }
 
-/// Proposes what stands behind `write`: another name, the order of two operations, or a word for the mark.
+/// Proposes what stands after `write`: another name, the order of two operations, or a word for the mark.
 fn propose_written(out: &mut Proposals, marked: &Marked, text: &str) -> Result<(), AllocError> {
     if let Some((second, first)) = text.split_once(" before ") {
         return propose_order(out, marked, second, first);

@@ -59,7 +59,7 @@ impl<'t> LineStarts<'t> {
     }
 }
 
-/// Notes the names that a line of data says, as its label and behind its semicolon, with the line's number.
+/// Notes the names that a line of data says, as its label and after its semicolon, with the line's number.
 fn note_names<'t>(
     named: &mut HashMap<&'t [u8], usize>,
     line: &SourceLine<'t>,
@@ -99,7 +99,7 @@ pub(crate) struct SourceLine<'t> {
 }
 
 impl<'t> SourceLine<'t> {
-    /// The line that begins behind so many bytes of a text.
+    /// The line that begins after so many bytes of a text.
     pub fn behind(text: &'t [u8], start: usize) -> SourceLine<'t> {
         let rest = text.get(start..).unwrap_or(&[]);
         let (line, _) = cut(rest, b'\n');
@@ -122,7 +122,7 @@ impl<'t> SourceLine<'t> {
         }
     }
 
-    /// What stands behind its semicolon, without blanks at its ends; None where it has none.
+    /// What stands after its semicolon, without blanks at its ends; None if it has none.
     pub fn comment(&self) -> Option<Token<'t>> {
         let (_, behind) = self.whole.cut(b';');
         Some(trimmed(behind?))
@@ -134,7 +134,7 @@ impl<'t> SourceLine<'t> {
         is_text(head, ".data") || is_text(head, ".fill")
     }
 
-    /// What stands behind its label and before its comment, without blanks at its ends.
+    /// What stands after its label and before its comment, without blanks at its ends.
     pub fn body(&self) -> Token<'t> {
         let (code, _) = self.whole.cut(b';');
         let (front, behind) = code.cut(b':');
@@ -165,7 +165,8 @@ impl<'t> SourceLine<'t> {
         trimmed(rest)
     }
 
-    /// What stands before the last bar before a place, and behind it, without blanks at the bar; None where there is no bar.
+    /// What stands before the last bar before a place, and after it, without blanks at the bar; None if there is no
+    /// bar.
     pub fn around_bar(&self, column: usize) -> Option<(Token<'t>, Token<'t>)> {
         let statement = self.statement();
         let before = statement.before(column.saturating_sub(statement.start));

@@ -14,7 +14,7 @@ use fault_messages::{Notes, Token, put_shown};
 use plain_text::TextWriter;
 use std::alloc::{AllocError, Global};
 
-/// Tells that there are too many operands, or too few, by a statement that has as many as it takes.
+/// Notes that there are too many operands, or too few, with a statement that has as many as it takes.
 pub(crate) fn note_count(
     notes: &mut Notes,
     reader: &Reader,

@@ -19,7 +19,7 @@ const ASK_FOR_TWO: &str = "write .profile 2 on a line of its own";
 /// The suffixes that operations may have.
 const SUFFIXES: [&str; 4] = [".N", ".F", ".S", ".T"];
 
-/// Tells that the head of an operation is none. Behind it stands what would be its operands.
+/// Notes that the head of an operation is none. After it stands what would be its operands.
 pub(crate) fn note_unknown_operation(
     notes: &mut Notes,
     reader: &Reader,
@@ -44,7 +44,7 @@ pub(crate) fn note_unknown_operation(
     }
 }
 
-/// Tells that no operation has this name.
+/// Notes that no operation has this name.
 fn note_no_operation(
     notes: &mut Notes,
     reader: &Reader,
@@ -61,7 +61,7 @@ fn note_no_operation(
     notes.add(reader.spot(head))
 }
 
-/// Tells that the operation has no such suffix.
+/// Notes that the operation has no such suffix.
 fn note_suffix(
     notes: &mut Notes,
     reader: &Reader,
@@ -212,7 +212,7 @@ fn capitals(alloc: Global, suffix: Token) -> Result<String, AllocError> {
     Ok(text)
 }
 
-/// Tells that the head of a directive is none of the text's profile.
+/// Notes that the head of a directive is none of the text's profile.
 pub(crate) fn note_unknown_directive(
     notes: &mut Notes,
     reader: &Reader,

@@ -13,7 +13,7 @@ use std::alloc::AllocError;
 /// How many characters a label has at most.
 const LONGEST_LABEL: usize = 32;
 
-/// Tells what is wrong with the label of a line, and answers whether its statement can be judged.
+/// Notes what is wrong with the label of a line, and answers whether its statement can be judged.
 pub(crate) fn note_label(notes: &mut Notes, reader: &Reader) -> Result<bool, AllocError> {
     let Some(label) = reader.line().label() else {
         return Ok(true);
@@ -34,7 +34,7 @@ pub(crate) fn note_label(notes: &mut Notes, reader: &Reader) -> Result<bool, All
     }
 }
 
-/// Tells that a label is no name, or stands on an earlier line.
+/// Notes that a label is no name, or stands on an earlier line.
 fn note_name(notes: &mut Notes, reader: &Reader, label: Token) -> Result<(), AllocError> {
     match reader.item(Some(label.bytes), b"") {
         Ok(_) => Ok(()),

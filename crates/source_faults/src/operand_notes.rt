@@ -43,7 +43,7 @@ impl Taken<'_> {
     }
 }
 
-/// Tells what is wrong with the operands that stand after a head.
+/// Notes what is wrong with the operands that stand after a head.
 pub(crate) fn note_operands(
     notes: &mut Notes,
     reader: &Reader,
@@ -68,7 +68,7 @@ fn operand_pieces<'t>(alloc: Global, operands: Token<'t>) -> Result<Vec<Token<'t
     }
 }
 
-/// Tells what is wrong with each of as many operands as may stand there.
+/// Notes what is wrong with each of as many operands as may stand there.
 fn note_each(
     notes: &mut Notes,
     reader: &Reader,
@@ -91,7 +91,7 @@ fn note_each(
     Ok(())
 }
 
-/// Tells what is wrong with one operand.
+/// Notes what is wrong with one operand.
 fn note_operand(
     notes: &mut Notes,
     reader: &Reader,
@@ -115,7 +115,7 @@ fn note_operand(
     }
 }
 
-/// Tells that no line has a label.
+/// Notes that no line has a label.
 fn note_missing_label(
     notes: &mut Notes,
     reader: &Reader,
@@ -130,7 +130,7 @@ fn note_missing_label(
     notes.add(reader.spot(operand))
 }
 
-/// Tells that an operand is out of its limits.
+/// Notes that an operand is out of its limits.
 fn note_range(
     notes: &mut Notes,
     reader: &Reader,
@@ -143,7 +143,7 @@ fn note_range(
     notes.add(reader.spot(operand))
 }
 
-/// Tells that an operand is missing, or none of its form.
+/// Notes that an operand is missing, or none of its form.
 fn note_malformed(
     notes: &mut Notes,
     reader: &Reader,
@@ -157,7 +157,7 @@ fn note_malformed(
     }
 }
 
-/// Tells that an operand is missing.
+/// Notes that an operand is missing.
 fn note_missing_operand(
     notes: &mut Notes,
     reader: &Reader,
@@ -171,7 +171,7 @@ fn note_missing_operand(
     notes.add_with(reader.spot(operand), taken.form.noun())
 }
 
-/// Tells that an operand is none of its form.
+/// Notes that an operand is none of its form.
 fn note_form(
     notes: &mut Notes,
     reader: &Reader,

@@ -51,7 +51,7 @@ fn image_of(alloc: Global, text: &[u8]) -> Result<Result<Image, AsmFault>, Alloc
     }
 }
 
-/// Tells the faults of a text that is refused for one.
+/// Reports the faults of a text that is refused for one.
 fn tell_faults<'t>(
     alloc: Global,
     source: &SourceFacts<'t>,
@@ -90,7 +90,7 @@ fn faults_of<'t>(
     Ok(notes)
 }
 
-/// Tells the faults of all lines, and then those of the text as a whole, until there are as many as are told.
+/// Notes the faults of all lines, and then those of the text as a whole, until there are as many as are reported.
 fn note_faults<'t>(
     notes: &mut Notes,
     source: &SourceFacts<'t>,
@@ -112,7 +112,7 @@ fn note_faults<'t>(
     totals.note_missing(notes, source, last_line(text))
 }
 
-/// Tells what is wrong with a line whose least fault is of this kind.
+/// Notes what is wrong with a line whose least fault is of this kind.
 fn note_line(notes: &mut Notes, reader: &Reader, kind: Fault) -> Result<(), AllocError> {
     let before = notes.len();
     if note_label(notes, reader)? {

@@ -11,7 +11,7 @@ use asm_line::{Directive, Fault, names};
 use fault_messages::{Notes, Token};
 use std::alloc::AllocError;
 
-/// Tells what is wrong with the statement of a line.
+/// Notes what is wrong with the statement of a line.
 pub(crate) fn note_statement(notes: &mut Notes, reader: &Reader) -> Result<(), AllocError> {
     let statement = reader.line().statement();
     if statement.bytes.is_empty() {
@@ -64,7 +64,7 @@ fn note_instruction(
     note_pieces(notes, reader, &pieces, before)
 }
 
-/// Tells what is wrong with the operations of a word, where so much was found before it.
+/// Notes what is wrong with the operations of a word, where so much was found before it.
 fn note_pieces(
     notes: &mut Notes,
     reader: &Reader,
@@ -84,7 +84,7 @@ fn note_pieces(
     note_word(notes, reader, &operations, notes.len() == before)
 }
 
-/// Tells what is wrong with the lookahead of an instruction, if it has one, and answers what stands after it.
+/// Notes what is wrong with the lookahead of an instruction, if it has one, and answers what stands after it.
 fn note_lookahead<'t>(
     notes: &mut Notes,
     reader: &Reader,
@@ -112,7 +112,7 @@ fn note_lookahead<'t>(
     Ok(behind)
 }
 
-/// Tells what is wrong with one of the operations of a word, and answers which it is.
+/// Notes what is wrong with one of the operations of a word, and answers which it is.
 fn note_operation(
     notes: &mut Notes,
     reader: &Reader,

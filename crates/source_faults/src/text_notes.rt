@@ -67,7 +67,7 @@ impl Totals {
         }
     }
 
-    /// Takes what a line without a fault adds, and tells what the text may not have once more.
+    /// Takes what a line without a fault adds, and notes what the text may not have once more.
     pub(crate) fn take(
         &mut self,
         notes: &mut Notes,
@@ -113,7 +113,7 @@ impl Totals {
         Ok(())
     }
 
-    /// Tells what a text lacks, which ends at this place: at its first line that it has no entry, else at its end.
+    /// Notes what a text lacks that ends at this place: on its first line that it has no entry, all else at its end.
     pub(crate) fn note_missing(
         &self,
         notes: &mut Notes,
@@ -144,7 +144,7 @@ impl Totals {
     }
 }
 
-/// Tells that the text has no entry.
+/// Notes that the text has no entry.
 fn note_no_entry(notes: &mut Notes, source: &SourceFacts) -> Result<(), AllocError> {
     notes.help.put("write .entry ");
     put_shown(&mut notes.help, source.first_label().unwrap_or(b"0"));
@@ -173,7 +173,7 @@ fn head_spot(line: &CountedLine) -> Spot {
     line.spot(split_head(line.statement()).0)
 }
 
-/// Tells that a directive stands a second time, or keeps where it stands first.
+/// Notes that a directive stands a second time, or keeps where it stands first.
 fn note_once(
     notes: &mut Notes,
     line: &CountedLine,
@@ -199,7 +199,7 @@ fn take_word(notes: &mut Notes, line: &CountedLine) -> Result<(), AllocError> {
     Ok(())
 }
 
-/// Tells that a byte of the line is above 7F.
+/// Notes that a byte of the line is above 7F.
 pub(crate) fn note_foreign(notes: &mut Notes, line: &CountedLine) -> Result<(), AllocError> {
     let rest = Token::of_line(line.text.bytes).behind(length_of(line.text.bytes, true));
     let Some(byte) = rest.bytes.first() else {

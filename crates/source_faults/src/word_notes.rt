@@ -15,7 +15,7 @@ pub(crate) struct WrittenOperation<'t> {
     pub(crate) piece: Token<'t>,
 }
 
-/// Tells what is wrong with the order of operations, or where each by itself is right, with the registers that they write.
+/// Notes what is wrong with the order of operations, or if each by itself is right, with the registers that they write.
 pub(crate) fn note_word(
     notes: &mut Notes,
     reader: &Reader,
@@ -32,7 +32,7 @@ pub(crate) fn note_word(
     Ok(())
 }
 
-/// Tells what is wrong with the order of two operations or more, and answers whether it is right.
+/// Notes what is wrong with the order of two operations or more, and answers whether it is right.
 fn note_order(
     notes: &mut Notes,
     reader: &Reader,
@@ -56,7 +56,7 @@ fn note_order(
     Ok(true)
 }
 
-/// Tells that an operation stands in a word of its own.
+/// Notes that an operation stands in a word of its own.
 fn note_alone(
     notes: &mut Notes,
     reader: &Reader,
@@ -71,7 +71,7 @@ fn note_alone(
     )
 }
 
-/// Tells that an operation of this part does not stand after another.
+/// Notes that an operation of this part does not stand after another.
 fn note_pair(
     notes: &mut Notes,
     reader: &Reader,
@@ -96,7 +96,7 @@ fn note_pair(
     notes.add(reader.spot(operation.piece))
 }
 
-/// Tells which two operations write one register.
+/// Notes which two operations write one register.
 fn note_writers(
     notes: &mut Notes,
     reader: &Reader,
@@ -138,7 +138,7 @@ fn destination(reader: &Reader, operation: WrittenOperation) -> u8 {
     m.destination().max(a.destination()).max(c.destination())
 }
 
-/// Tells that two operations write one register.
+/// Notes that two operations write one register.
 fn note_both(
     notes: &mut Notes,
     reader: &Reader,

@@ -5,16 +5,16 @@ use crate::statements::push_statement;
 use asm_line::cut_line;
 use std::alloc::{AllocError, Global};
 
-/// The column of statements; behind a longer label one blank stands.
+/// The column of statements; after a longer label one blank stands.
 const STATEMENT: usize = 8;
 
 /// The column of comments.
 const COMMENT: usize = 32;
 
-/// The next column of comments, behind a longer statement.
+/// The next column of comments, after a longer statement.
 const SECOND_COMMENT: usize = 48;
 
-/// How far the columns behind it are apart.
+/// How far the columns after it are apart.
 const FURTHER: usize = 8;
 
 /// A comment that stands alone on its line is one of the statements' column up to here.
@@ -79,7 +79,7 @@ fn push_comment(
     Ok(out.extend_from_slice(comment)?)
 }
 
-/// The column of a comment behind so many bytes.
+/// The column of a comment after so many bytes.
 fn column_behind(width: usize) -> usize {
     if width < COMMENT {
         COMMENT

@@ -2,7 +2,7 @@
 
 use std::alloc::AllocError;
 
-/// Adds a statement with one blank where it has blanks, none before a comma and one behind it, and one on both sides of
+/// Adds a statement with one blank where it has blanks, none before a comma and one after it, and one on both sides of
 /// a bar.
 pub(crate) fn push_statement(out: &mut Vec<u8>, statement: &[u8]) -> Result<(), AllocError> {
     let mut is_first = true;

@@ -28,7 +28,7 @@ pub struct DataLine<'t> {
     pub count: usize,
 }
 
-/// What stands behind the first semicolon of a line; None where it has none.
+/// What stands after the first semicolon of a line; None if it has none.
 pub fn comment_of(line: &[u8]) -> Option<&[u8]>
     ensures { option_copied result ≡ text_after 59 line.now }
 {

@@ -138,7 +138,7 @@ fn note_data<'t>(
     Ok(())
 }
 
-/// How many data words a line with this item adds behind so many.
+/// How many data words a line with this item adds after so many.
 #[tactic(auto, unfolding(crate::specs::DataLines::cells_added))]
 fn cells_added(first: usize, item: &Result<Item, Fault>) -> usize
     requires { first ≤ most_memory_words }

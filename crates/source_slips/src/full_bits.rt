@@ -10,9 +10,9 @@ use image_file::Image;
 use insn_word::MemoryOp;
 use std::alloc::AllocError;
 
-/// Warns of each reference that waits for a word which is full from the start on, or empty, and which nothing turns; and if
-/// the program shows where its streams go, of each for whose word that comes only after such waits. None is told where
-/// waiting has a limit, where the program fills no word at all, where data words have other tags than full, and where a
+/// Warns of each reference that waits for a word which is full from the start on, or empty, and which nothing turns;
+/// and if the program shows where its streams go, of each for whose word that comes only after such waits. It warns of
+/// none if waiting has a limit, if the program fills no word at all, if data words have other tags than full, or if a
 /// TAGSET may let a word forward references to another one.
 pub(crate) fn warn_of_full_bits(
     slips: &mut Slips,

@@ -4,7 +4,7 @@ use crate::operands::{LinePiece, base_operand, label_operand, statement_of};
 use source_places::SourcePlaces;
 use std::alloc::{AllocError, Global};
 
-/// The most slips of a text that are told.
+/// The most slips of a text that are reported.
 const MOST_SLIPS: usize = 1000;
 
 /// What a slip is, with the number of its page of `explain` (docs/words/faults.txt).
@@ -82,7 +82,7 @@ impl<'t> Slips<'t> {
         })
     }
 
-    /// The allocator of what is told.
+    /// The allocator of what is reported.
     pub(crate) fn alloc(&self) -> Global {
         self.alloc
     }
@@ -102,7 +102,7 @@ impl<'t> Slips<'t> {
         None
     }
 
-    /// Whether no more are told.
+    /// Whether no more are reported.
     pub(crate) fn is_full(&self) -> bool {
         self.found.len() >= MOST_SLIPS
     }
