@@ -115,7 +115,7 @@ const CAPABILITIES: [&str; 12] = [
     "supportsValueFormattingOptions",
 ];
 
-/// The body that tells it.
+/// The body that says what can be asked for.
 fn capabilities(alloc: Global) -> Json {
     let mut body = Json::new(alloc);
     body.open();

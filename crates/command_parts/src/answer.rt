@@ -13,7 +13,7 @@ pub struct CommandAnswer {
     pub errors: String,
     /// How it ended.
     pub status: Status,
-    /// Why a part of it was not done, which is told after all else.
+    /// Why a part of it was not done, which is reported after all else.
     pub fault: Option<LabFault>,
 }
 

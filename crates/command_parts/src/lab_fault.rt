@@ -7,7 +7,7 @@ use std::alloc::{AllocError, AllocFailed};
 pub enum LabFault {
     /// For a reason in words.
     Words(String),
-    /// For reasons that are told in whole lines.
+    /// For reasons that are reported in whole lines.
     Lines(String),
     /// Memory was refused.
     NoMemory,

@@ -162,8 +162,8 @@ pub fn check_loose_schedule(
     Ok(messages)
 }
 
-/// Tells what the stars of a schedule mean: of a run of an image's program, or else in general; nothing where the text is no
-/// schedule for another reason.
+/// Reports what the stars of a schedule mean: in a run of an image's program, or else in general; nothing if the text
+/// is no schedule for another reason.
 fn tell_stars(
     alloc: Global,
     strict: &StrictSchedule,
@@ -193,7 +193,7 @@ fn tell_stars(
     }
 }
 
-/// Tells what the stars of a schedule stand for in a run of an image's program, and where that are too many steps.
+/// Reports what the stars of a schedule stand for in a run of an image's program, and where those are too many steps.
 fn tell_stars_of_run(
     alloc: Global,
     strict: &StrictSchedule,

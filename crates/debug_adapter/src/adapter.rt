@@ -110,7 +110,7 @@ impl<'a, 'i, 't> Adapter<'a, 'i, 't> {
         Ok(turn)
     }
 
-    /// Goes on with what is under way for a slice of steps, and tells where it stops, by events.
+    /// Goes on with what is under way for a slice of steps, and reports by events where it stops.
     #[tactic(auto, using(adapter_messages::proofs::Sending::nothing_sent))]
     pub fn go_on(&mut self, connection: &mut Connection) -> Result<(), AllocError>
         ensures none { SendsNoResponse connection.old.outbox connection.new.outbox }

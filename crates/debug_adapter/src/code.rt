@@ -8,7 +8,7 @@ use editor_wire::Json;
 use plain_text::file_name;
 use serde_json::Value;
 
-/// The most instructions that are told at once.
+/// The most instructions that are shown at once.
 const MOST_INSTRUCTIONS: i64 = 10_000;
 
 impl<'a, 'i, 't> Adapter<'a, 'i, 't> {
@@ -91,7 +91,7 @@ impl<'a, 'i, 't> Adapter<'a, 'i, 't> {
         Ok(())
     }
 
-    /// Program words around a place. Those that the program doesn't have are told as no instructions.
+    /// Program words around a place. Those that the program doesn't have are shown as no instructions.
     pub(crate) fn disassemble(&self, request: &DapRequest, body: &mut Json) -> Result<(), Refusal> {
         let Some(place) = request.text("memoryReference").and_then(read_reference) else {
             return Err(Refusal::Words("this is no address of the program"));

@@ -7,7 +7,7 @@ use adapter_messages::DapRequest;
 use base64::engine::general_purpose::STANDARD;
 use editor_wire::Json;
 
-/// The most bytes that are told at once: all of the largest memory.
+/// The most bytes that are shown at once: all of the largest memory.
 const MOST_BYTES: u64 = 2_097_152;
 
 impl<'a, 'i, 't> Adapter<'a, 'i, 't> {

@@ -158,7 +158,7 @@ impl<'a, 'i, 't> Adapter<'a, 'i, 't> {
         }
     }
 
-    /// Tells where a move ended.
+    /// Reports where a move ended.
     pub(crate) fn tell_stop(
         &mut self,
         stop: StopReason,

@@ -17,7 +17,7 @@ pub(crate) struct OngoingMove {
     is_back: bool,
     /// The position at which it ends at last.
     goal: u64,
-    /// The stream that is told there; None for that of the next step.
+    /// The stream that is reported there; None for that of the next step.
     stream: Option<Step>,
     /// What is looked for beside the points.
     conditions: StopConditions,
@@ -74,7 +74,7 @@ impl OngoingMove {
 }
 
 impl<'a, 'i, 't> Adapter<'a, 'i, 't> {
-    /// Goes on with what is under way for a slice, and tells where it stops.
+    /// Goes on with what is under way for a slice, and reports where it stops.
     pub(crate) fn search_on(&mut self, events: &mut Events) -> Result<(), Refusal> {
         let Some(search) = self.search else {
             return Ok(());

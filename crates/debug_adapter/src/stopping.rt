@@ -13,7 +13,7 @@ use step_views::StepView;
 use stream_core::Outcome;
 
 impl<'a, 'i, 't> Adapter<'a, 'i, 't> {
-    /// Tells a stop, for a reason, of a stream: None for that of the next step, or else of the last.
+    /// Reports a stop, for a reason, of a stream: None for that of the next step, or else of the last.
     pub(crate) fn tell(
         &mut self,
         reason: &str,
@@ -24,7 +24,7 @@ impl<'a, 'i, 't> Adapter<'a, 'i, 't> {
         self.tell_with(reason, stream, &keys, events)
     }
 
-    /// Tells a stop at points.
+    /// Reports a stop at points.
     pub(crate) fn tell_points(&mut self, events: &mut Events) -> Result<(), Refusal> {
         let keys = self.named.session.stopping_points(self.alloc)?;
         let mut numbers = Vec::new(self.alloc);
@@ -45,7 +45,7 @@ impl<'a, 'i, 't> Adapter<'a, 'i, 't> {
         self.tell_with(reason, stream, &numbers, events)
     }
 
-    /// Tells a stop with the numbers of the breakpoints that it is at.
+    /// Reports a stop with the numbers of the breakpoints that it is at.
     fn tell_with(
         &mut self,
         reason: &str,
@@ -90,7 +90,7 @@ impl<'a, 'i, 't> Adapter<'a, 'i, 't> {
         }
     }
 
-    /// Tells the line of the step that led to the position, where there is one.
+    /// Reports the line of the step that led to the position, where there is one.
     fn tell_last_step(&mut self, events: &mut Events) -> Result<(), Refusal> {
         let Some((_, line)) = self.last_view()? else {
             return Ok(());

@@ -12,7 +12,7 @@ use step_views::{Content, Place, StreamPart};
 use stream_core::Status;
 use tag_memory::Word;
 
-/// The most variables that are told at once.
+/// The most variables that are shown at once.
 const MOST_VARIABLES: u64 = 4096;
 
 /// Which parts of a stream the scope Status has, with their names.

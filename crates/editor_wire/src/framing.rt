@@ -100,7 +100,7 @@ impl Frames {
     }
 }
 
-/// The length that a head tells last, and whether nothing stands before its name on the line; None where it tells none.
+/// The last length that a head gives, and whether nothing stands before its name on the line; None if it gives none.
 fn length_in(head: &[u8]) -> Option<(u64, bool)> {
     for place in (0..head.len()).rev() {
         let rest = head.get(place..).unwrap_or(b"");

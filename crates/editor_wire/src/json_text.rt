@@ -130,7 +130,7 @@ impl Json {
         self.text(text);
     }
 
-    /// Writes a member that is two texts, one behind the other.
+    /// Writes a member that is two texts, one after the other.
     pub fn joined_of(&mut self, name: &str, front: &str, back: &str) {
         self.key(name);
         self.is_fresh = false;

@@ -42,7 +42,7 @@ enum Inside {
     Values,
     /// In a string.
     Text,
-    /// In a string, behind a backslash.
+    /// In a string, after a backslash.
     Escape,
 }
 

@@ -18,14 +18,14 @@ struct RunHere<'i, const S: usize> {
 }
 
 impl<'a, 'i, 't, const S: usize> DebugRepl<'a, 'i, 't, S> {
-    /// Goes where a command leads, and where that is the end of the schedule, tells how the run ends.
+    /// Goes where a command leads and, if that is the end of the schedule, shows how the run ends.
     pub(crate) fn go(&mut self, command: &Command, out: &mut TextWriter) -> Result<(), LabFault> {
         self.move_by(command, out)?;
         self.put_end_here(true, out)
     }
 
-    /// Adds how the run ends, the words that it changed, and its findings, where the session is at the schedule's end;
-    /// of a run that could go on only where that is told too.
+    /// Adds how the run ends, the words that it changed, and its findings, if the session is at the schedule's end; of
+    /// a run that could go on, only if that is shown too.
     pub(crate) fn put_end_here(
         &mut self,
         is_unfinished_told: bool,

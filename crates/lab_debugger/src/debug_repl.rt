@@ -206,7 +206,7 @@ impl<'a, 'i, 't, const S: usize> DebugRepl<'a, 'i, 't, S> {
         self.go(&Command::Go(position), out)
     }
 
-    /// Goes where a command leads, and tells which step led there, where that is, and what comes next.
+    /// Goes where a command leads, and shows which step led there, where that is, and what comes next.
     pub(crate) fn move_by(
         &mut self,
         command: &Command,

@@ -56,7 +56,7 @@ pub(crate) enum DebugWord {
     Quit,
 }
 
-/// The words, in the order in which `help` tells them.
+/// The words, in the order in which `help` lists them.
 const WORDS: [DebugWord; 24] = [
     DebugWord::Step,
     DebugWord::Next,

@@ -1,4 +1,4 @@
-//! The command `debug`: to and fro in a run, by the lines of standard input.
+//! The command `debug`: forward and back in a run, by the lines of standard input.
 #![tactic(auto)]
 
 mod debug_aliases;

@@ -14,7 +14,7 @@ use std::alloc::{AllocError, Global};
 /// An end of all schedules in words.
 #[derive(Drop)]
 pub struct EndWords {
-    /// Who was stopped, who waits or goes on for ever, and the words that changed. The claim, where it is broken.
+    /// Who was stopped, who waits or goes on forever, and the words that changed. The claim, where it is broken.
     pub text: String,
     /// The first finding of the run of its schedule, and how many more there are; empty where there is none.
     pub finding: String,

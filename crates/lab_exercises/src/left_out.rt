@@ -26,7 +26,7 @@ impl LookedFor {
     }
 }
 
-/// Whether a name has a digit and then, behind other digits, `_`.
+/// Whether a name begins with one or more digits, and `_` after them.
 fn begins_with_number(name: &[u8]) -> bool {
     match name.iter().position(|byte| !byte.is_ascii_digit()) {
         Some(place) => place > 0 && name.get(place) == Some(&b'_'),

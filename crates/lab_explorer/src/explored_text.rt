@@ -142,7 +142,7 @@ fn looked_at(found: &Explored<'_>) -> LookedAt {
     }
 }
 
-/// Of which schedules a search tells.
+/// Which schedules a search covers.
 fn schedules_of(found: &Explored<'_>) -> &'static str {
     match (found.is_complete, found.begin()) {
         (true, 0) => "every schedule",

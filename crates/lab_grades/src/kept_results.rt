@@ -50,8 +50,8 @@ struct Found {
 }
 
 impl<'a, T> KeptResults<'a, T> {
-    /// The file of this path for the results of a class, which is made where nothing is. The lines that are not whole
-    /// are told in the notes. A file that has no results is refused, and nothing of it changes.
+    /// The file of this path for the results of a class, which is made where nothing is. The notes report the lines
+    /// that are not whole. A file that has no results is refused, and nothing of it changes.
     pub(crate) fn open<X: Threads + Sync, F: Files<File = T>, R: Read>(
         rt: &X,
         alloc: Global,

@@ -1,4 +1,4 @@
-//! What is said of a run beside its steps, where a command tells of many.
+//! What is said of a run besides its steps, by a command that reports many.
 
 use crate::ends::put_end;
 use crate::fields::Fields;

@@ -18,7 +18,7 @@ pub enum FileKind {
 pub struct CheckRequest<'a> {
     /// The files, one at least.
     pub files: Vec<&'a str>,
-    /// The kind of all of them; None where each is told by its beginning and its name.
+    /// The kind of all of them; None if the kind of each is known by its beginning and its name.
     pub kind: Option<FileKind>,
     /// The program whose schedules these are, and of which the expectations are.
     pub program: Option<&'a str>,
@@ -72,7 +72,7 @@ pub struct GalleryRequest<'a> {
 pub struct LayoutRequest<'a> {
     /// The source texts; none, or `-` alone, is standard input.
     pub files: Vec<&'a str>,
-    /// Nothing is written: which files would change is told alone.
+    /// Nothing is written: it is only reported which files would change.
     pub checks: bool,
 }
 

@@ -297,7 +297,7 @@ pub enum LabCommand<'a> {
     },
     /// Shows a run.
     View(ViewRequest<'a>),
-    /// Goes to and fro in a run, by the lines of standard input.
+    /// Goes forward and back in a run, by the lines of standard input.
     Debug {
         program: &'a str,
         given: Option<&'a str>,

@@ -27,9 +27,9 @@ enum Quit {
     KeepsPlace,
 }
 
-/// Adds what a step changed, after what stands there since `begin`. The place of the next line of the stream tells its
-/// pc, where it is not the next word's; its end stands for each part that became zero and for the counts, and a start
-/// for the count of streams.
+/// Adds what a step changed, after what stands there since `begin`. The place of the next line of the stream shows its
+/// pc, if that is not the next word; its end stands for each part that became zero and for the counts, and a start for
+/// the count of streams.
 pub(crate) fn put_changes(
     out: &mut TextWriter,
     notation: Notation<'_, '_>,

@@ -9,7 +9,7 @@ use plain_text::TextWriter;
 use run_findings::{Access, Action, LostUpdate, TornRead, UnreadStore};
 use std::alloc::AllocError;
 
-/// How findings are told: by which names, in which numbers, of a run with which steps.
+/// How findings are shown: by which names, in which numbers, of a run with which steps.
 #[derive(Clone, Copy)]
 pub struct Telling<'a, 't> {
     /// The names of the program.
@@ -238,7 +238,7 @@ fn put_others(out: &mut TextWriter, more: usize) {
     });
 }
 
-/// Adds how many findings of a kind are not told, where there are any.
+/// Adds how many findings of a kind are not shown, if there are any.
 fn put_more(out: &mut TextWriter, count: usize, kind: &str) {
     let more = count.saturating_sub(MOST_OF_A_KIND);
     if more == 0 {

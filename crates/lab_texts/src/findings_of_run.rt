@@ -3,7 +3,7 @@
 use run_findings::{Action, Deed, Findings, LostUpdate, TornRead, UnreadStore, torn_reads};
 use std::alloc::{AllocError, Global};
 
-/// Of each kind of findings so many are told, and how many more there are.
+/// So many findings of each kind are shown, and then how many more there are.
 pub(crate) const MOST_OF_A_KIND: usize = 10;
 
 /// The most steps of a run whose torn reads are looked for, without those that were skipped or blocked: how long that

@@ -13,7 +13,7 @@ const PROVIDERS: [&str; 6] = [
     "documentFormattingProvider",
 ];
 
-/// The result that tells it. Whole texts are sent at each change.
+/// The result that says what can be asked for. Whole texts are sent at each change.
 pub(crate) fn capabilities(alloc: Global) -> Json {
     let mut json = Json::new(alloc);
     json.open();

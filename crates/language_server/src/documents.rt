@@ -94,7 +94,7 @@ impl Document {
         self.starts.line_with(&self.text, place)
     }
 
-    /// The place of a client's position; None behind the last line.
+    /// The place of a client's position; None if it is after the last line.
     pub fn place(&self, position: Position) -> Option<LinePlace<'_>> {
         let written = self.starts.line(&self.text, position.line)?;
         let line = self.starts.line(&self.ascii, position.line)?;

@@ -13,7 +13,7 @@ use source_places::SourcePlaces;
 use std::alloc::{AllocError, Global};
 use std::str;
 
-/// How many lines on which a label is used are told at most.
+/// How many lines on which a label is used are shown at most.
 const MOST_USES: usize = 20;
 
 /// What stands at a place, as plain text; null where nothing is said of it.

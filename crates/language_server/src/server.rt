@@ -19,7 +19,7 @@ use language_messages::{
 };
 use std::alloc::{AllocError, Global};
 
-/// What tells diagnostics.
+/// The notification that reports diagnostics.
 const PUBLISH: &str = "textDocument/publishDiagnostics";
 
 /// What comes after a message.

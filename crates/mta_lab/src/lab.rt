@@ -34,7 +34,7 @@ pub(crate) struct Terminals {
     pub input: bool,
     /// Standard output.
     pub output: bool,
-    /// Standard error: then a search tells how far it is.
+    /// Standard error: then a search reports how far it is.
     pub errors: bool,
     /// The environment wants no colours.
     pub refuse_colours: bool,

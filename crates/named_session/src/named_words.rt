@@ -5,8 +5,8 @@ use crate::user_names::{UserName, read_name};
 use std::str;
 
 impl<'i, 't, const S: usize> NamedSession<'i, 't, S> {
-    /// The program word that a place means: a label, `LABEL+N` for so many words behind it, or a line, of which the first
-    /// word on it or behind it is meant; None where the program has no such word.
+    /// The program word that a place means: a label, `LABEL+N` for so many words after it, or a line, of which the
+    /// first word on it or after it is meant; None if the program has no such word.
     pub fn word_of_place(&self, text: &str) -> Option<u32> {
         match read_name(text) {
             Some(UserName::Label(name)) => self.word_of_label(name),
@@ -15,8 +15,7 @@ impl<'i, 't, const S: usize> NamedSession<'i, 't, S> {
         }
     }
 
-    /// The program word at a label, or behind it by as many words as `LABEL+N` says; None where the program has no such
-    /// word.
+    /// The program word at a label, or as many words after it as `LABEL+N` says; None if the program has no such word.
     pub fn word_of_label(&self, name: &str) -> Option<u32> {
         let (label, behind) = match name.split_once('+') {
             Some((label, digits)) => (label.trim(), digits.trim().parse::<u32>().ok()?),
@@ -37,7 +36,7 @@ impl<'i, 't, const S: usize> NamedSession<'i, 't, S> {
         None
     }
 
-    /// The first program word on a line or behind it, lines counting from 1; None where there is none.
+    /// The first program word on a line or after it, lines counting from 1; None if there is none.
     pub fn word_of_line(&self, line: usize) -> Option<u32> {
         let index = line.checked_sub(1)?;
         for word in 0..u16::MAX {

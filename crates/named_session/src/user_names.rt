@@ -73,7 +73,7 @@ fn read_register(text: &str) -> Option<u8> {
     if number < 32 { Some(number) } else { None }
 }
 
-/// A number, decimal or behind `0x` hexadecimal.
+/// A number: decimal, or hexadecimal after `0x`.
 fn read_number(text: &str) -> Option<u64> {
     match text.strip_prefix("0x") {
         Some(digits) => u64::from_str_radix(digits, 16).ok(),

@@ -62,7 +62,7 @@ fn push_title(out: &mut String, names: RunNames, ended: &str) -> Result<(), Allo
     out.push_str("</desc>\n")
 }
 
-/// Adds the style, and a sheet of paper behind all.
+/// Adds the style, and a sheet of paper on which all else is drawn.
 fn push_paper(out: &mut String, lanes: &Lanes) -> Result<(), AllocError> {
     let width = lanes.width();
     let height = lanes.height();

@@ -4,10 +4,10 @@ use replay_page::json_values::{List, Object, digits};
 use serde_json::Value;
 use std::alloc::{AllocError, Global};
 
-/// What no stream has for itself: `words`, of each that is not as at the start its address, value and tags, and `places`, of
-/// each processor how many streams are current and how many are reserved. In what the memory differs from the image is told
-/// by four numbers for each word, its place, its tags and the two halves of its value; of each processor `counts` has how many
-/// streams are reserved and how many are current.
+/// What no stream has for itself: `words`, of each that is not as at the start its address, value and tags, and
+/// `places`, of each processor how many streams are current and how many are reserved. `memory` has four numbers for
+/// each word that is not as in the image: its place, its tags and the two halves of its value. `counts` has for each
+/// processor how many streams are reserved and how many are current.
 pub(crate) fn shared_json(
     alloc: Global,
     memory: &[u32],

@@ -7,7 +7,7 @@ ghost use Rattle.state_tables.specs.Depths.{depth_in, AreDepths};
 use schedule_space::Space;
 use std::alloc::{AllocError, Global};
 
-/// Of each state how many steps its schedule has behind those that all begin with.
+/// Of each state how many steps its schedule has after those that all begin with.
 pub fn depths_of(alloc: Global, space: &Space<'_>) -> Result<Vec<usize>, AllocError>
     ensures { IfOk result (λ v. AreDepths space.now (count space.now) v.items) }
 {
@@ -19,7 +19,7 @@ pub fn depths_of(alloc: Global, space: &Space<'_>) -> Result<Vec<usize>, AllocEr
     Ok(depths)
 }
 
-/// How many steps the schedule of the state at a place has behind those that all begin with.
+/// How many steps the schedule of the state at a place has after those that all begin with.
 fn depth_at(alloc: Global, space: &Space<'_>, place: usize) -> Result<usize, AllocError>
     ensures { IfOk result (λ n. n ≡ depth_in space.now place) }
 {

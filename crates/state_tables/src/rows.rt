@@ -15,8 +15,8 @@ use world_keys::{Table, world_key};
 pub struct StateRows {
     /// What memories, processors and streams hold in some state, each once, as lists of numbers.
     pub table: Table,
-    /// Of each state the number of what its memory holds, and behind it of each processor that of what it holds: places in
-    /// the table.
+    /// Of each state the number of what its memory holds, and after it of each processor that of what it holds: places
+    /// in the table.
     pub rows: Vec<Vec<u32>>,
 }
 
