@@ -27,7 +27,7 @@ fn ended<C: Read, W: Write>(
     debug_engine(alloc, &mut &BLOCKED[..], &mut &STEPS[..], commands, writer)
 }
 
-/// What was written, and the fault, where a read fails behind so many of a byte each.
+/// What was written, and the fault, if a read fails after so many of a byte each.
 fn written(alloc: Global, reads: usize, kind: ErrorKind) -> (Vec<u8>, Result<(), ToolFault>) {
     let mut commands = FailingReader {
         text: COMMANDS.as_bytes(),

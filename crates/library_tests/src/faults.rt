@@ -71,7 +71,7 @@ fn each_read_may_fail(rt: HostRuntime) {
     }
 }
 
-/// How the command ended on a writer that fails at the call behind so many, and how much it gave away.
+/// How the command ended on a writer that fails at the call after so many, and how much it gave away.
 fn ended_writing<X: AllocGlobal + Threads + Wait + Sync>(
     rt: &X,
     command: Command,
@@ -83,7 +83,7 @@ fn ended_writing<X: AllocGlobal + Threads + Wait + Sync>(
     (done, writer.given())
 }
 
-/// A writer takes seven bytes a write, and is flushed once, behind the last one: with so many calls all is written, and
+/// A writer takes seven bytes a write, and is flushed once, after the last one: with so many calls all is written, and
 /// with fewer nothing is given away.
 fn may_each_write_fail<X: AllocGlobal + Threads + Wait + Sync>(
     rt: &X,

@@ -12,15 +12,15 @@ const LOCK: &str =
     locked: LOAD.S r1, r0, 0\nLOAD.N r2, r0, 1\nADD r2, r2, 1\nSTORE.N r2, r0, 1\nSTORE.S r1, r0, 0\nQUIT\n\
     bare: LOAD.N r2, r0, 1\nADD r2, r2, 1\nSTORE.N r2, r0, 1\nQUIT\n";
 
-/// Stream 0 of processor 0 starts stream 1 with its fourth step. All go on for ever then, as does processor 1.
+/// Stream 0 of processor 0 starts stream 1 with its fourth step. All go on forever then, as does processor 1.
 const STARTING: &str =
     ".slim 2\n.entry 0\n.entry loop\nLIT r1, 1\nRESERVE r2, r1\nTLIT t1, loop\nCREATE t1, r0\n\
     loop: SKIP ALWAYS, 0, -1\n.data 0\n";
 
-/// Three streams that go on for ever.
+/// Three streams that go on forever.
 const LOOPING: &str = ".slim 1\n.entry 0\n.entry 0\n.entry 0\nSKIP ALWAYS, 0, -1\n.data 0\n";
 
-/// Two streams that mask BLOCKED, and wait for ever after one block that is counted.
+/// Two streams that mask BLOCKED, and wait forever after one block that is counted.
 const DEADLOCK: &str =
     ".slim 1\n.retry 1\n.entry 0\n.entry 0\nMASK 4\nLOAD.S r1, r0, 0\nQUIT\n.data 0, 0\n";
 

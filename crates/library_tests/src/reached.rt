@@ -1,11 +1,11 @@
-//! Which words of a program streams come to. That few words are told is in no clause.
+//! Which words of a program streams come to. That few words are found is in no clause.
 
 use crate::sources::image_of;
 use reachable_places::{reachable_places, unreached_rows};
 use std::alloc::Global;
 
-/// The words of a call and its return, of a skip and of a trap handler: no way leads to 4, behind a QUIT, to 6, behind a
-/// JUMP that always goes, to 8, which is skipped, nor to 10 and 11, behind a QUIT again.
+/// The words of a call and its return, of a skip and of a trap handler: no stream can reach 4, after a QUIT, 6, after a
+/// JUMP that always goes, 8, which is skipped, nor 10 and 11, after a QUIT again.
 const SOURCE: &str = ".slim 1
 .entry 0
 .trap handler

@@ -24,13 +24,13 @@ const SECOND: [bool; 32] = [
 
 const ALL: [bool; 32] = [true; 32];
 
-/// What is told: what r1 and r2 hold, and whether the newest code is negative.
+/// What is shown: what r1 and r2 hold, and whether the newest code is negative.
 type Told = (u64, u64, bool);
 
 type Row = (&'static str, &'static [bool; 32], u8, Told);
 
-/// A source, which registers are named, how many steps are taken, and what is told then. A register is told until it is
-/// read last, and a named one at each place; a code until it is asked for last.
+/// A source, which registers are named, how many steps are taken, and what is shown then. A register is shown until it
+/// is read last, and a named one at each place; a code until it is asked for last.
 const ROWS: [Row; 13] = [
     (READING, &NONE, 0, (0, 0, false)),
     (READING, &NONE, 1, (5, 0, false)),
@@ -62,7 +62,7 @@ fn told_of(live: &LiveRegisters, machine: &Machine<1>) -> Option<Told> {
     Some((registers[1], registers[2], is_negative))
 }
 
-/// What is told after so many steps.
+/// What is shown after so many steps.
 fn told_after(alloc: Global, source: &str, names: &[bool; 32], count: u8) -> Option<Told> {
     let image = image_of(alloc, source)?;
     let live = LiveRegisters::of(alloc, &image, names).ok()?;
@@ -70,7 +70,7 @@ fn told_after(alloc: Global, source: &str, names: &[bool; 32], count: u8) -> Opt
     told_of(&live, &machine)
 }
 
-/// The first of the rows of which something else is told.
+/// The first of the rows of which something else is shown.
 fn first_told_otherwise(alloc: Global, rows: &[Row]) -> Option<usize> {
     for (number, (source, names, count, told)) in rows.iter().enumerate() {
         if told_after(alloc, source, names, *count) != Some(*told) {

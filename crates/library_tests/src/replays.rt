@@ -6,7 +6,7 @@ use replay_debugger::Session;
 use std::alloc::Global;
 use trace_text::read_schedule;
 
-/// A countdown of 298 steps behind a first one, then a load that empties the only word, then an endless loop.
+/// A countdown of 298 steps after a first one, then a load that empties the only word, then an endless loop.
 const COUNTDOWN: &str =
     ".slim 1\n.entry 0\nLIT r2, 149\nSUB.T r2, r2, 1\nSKIP NE, 0, -2\nLOAD.S r3, r0, 0\n\
     SKIP ALWAYS, 0, -1\n.data 7\n";

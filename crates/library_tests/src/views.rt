@@ -7,7 +7,7 @@ use std::alloc::Global;
 use step_views::{Change, Content, Place, StepView, StreamPart, content_of, take_step};
 use stream_core::Status;
 
-/// A stream that reserves and starts another one, and stores 1 through a word that forwards to the word behind it.
+/// A stream that reserves and starts another one, and stores 1 through a word that forwards to the word after it.
 const STARTING: &str = ".slim 2\n.entry 0\nLIT r2, 1\nRESERVE r3, r2\nTLIT t1, 5\nCREATE t1, r2\n\
     STORE.N r2, r0, 0\nQUIT\n.data 8, 3\n.data 0, 0\n";
 

@@ -1,4 +1,4 @@
-//! Who can go on: two streams that wait for ever, and where.
+//! Who can go on: two streams that wait forever, and where.
 use crate::sources::image_of;
 use machine::Machine;
 use processor::Step;

@@ -12,7 +12,7 @@ use stream_core::{Outcome, Stream, stream_text};
 use tag_memory::{Tags, Word};
 use trace_text::{history_line, trace_line, world_text};
 
-/// Behind `LIT r1, 3`, with no trap entry.
+/// After `LIT r1, 3`, with no trap entry.
 pub(crate) const STREAM_TEXT: &str =
     "Running ssw 0000000000000001 xr 0000000000000000 retries 0\nr01 0000000000000003\nt0 00000000FFFFFFFF\n";
 

@@ -110,7 +110,7 @@ fn command_rounds(
     count
 }
 
-/// Goes to places all over a run, each 7 twentieths of it behind the one before, and all in the middle of theirs; gives
+/// Goes to places all over a run, each 7 twentieths of it after the one before, and all in the middle of theirs; gives
 /// how many steps were run for them.
 fn go_to_places(session: &mut Session<8>) -> Option<u64> {
     let mut count = 0u64;

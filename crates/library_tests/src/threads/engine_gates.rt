@@ -1,4 +1,4 @@
-//! What the gate of the command `threads` is told.
+//! What is reported to the gate of the command `threads`.
 use super::logs::Kind::{After, Before, Local};
 use super::logs::{Call, Log};
 use super::runs::image_of;
@@ -13,7 +13,7 @@ const OF_TWO_STREAMS: &str =
     "LIT r1, 1\nRESERVE r2, r1\nTLIT t1, c\nCREATE t1, r1\nLOAD.S r3, r0, 0\nq: QUIT\n\
     c: STORE.S r1, r0, 0\nQUIT\n.data 0, 0\n";
 
-/// All that a gate is told of processor 0 where it begins at 0.
+/// All that is reported to a gate of processor 0 if it begins at 0.
 const OF_ZERO: [Call; 10] = [
     Call {
         kind: Local,
@@ -121,15 +121,15 @@ const OF_ONE: [Call; 10] = [
     },
 ];
 
-/// What it is told of processor 0 where that ends at once.
+/// What is reported to it of processor 0 if that ends at once.
 const ENDING: [Call; 1] = [Call {
     kind: Local,
     p: 0,
     s: 0,
 }];
 
-/// Whether the engine runs the program of these processors, and tells the gate that it is given just these calls for
-/// processor 0, and for processor 1.
+/// Whether the engine runs the program of these processors, and reports to its gate just these calls for processor 0,
+/// and for processor 1.
 fn tells<R: AllocGlobal + Threads + Wait + Sync>(
     rt: &R,
     head: &str,

@@ -1,4 +1,4 @@
-//! What a gate is told while a processor is driven.
+//! What is reported to a gate while a processor is driven.
 ghost use Rattle.std.specs.Prelude.{None};
 
 use super::logs::Kind::{After, Ask, Before, Local};

@@ -61,7 +61,7 @@ fn seen(record: &Recorded<2>) -> (usize, usize, Option<u64>, bool) {
     )
 }
 
-/// Whether a drive is refused behind the first two requests, and a later one through the same port asks again and goes
+/// Whether a drive is refused after the first two requests, and a later one through the same port asks again and goes
 /// on to the end.
 fn goes_on<R: AllocGlobal + Wait>(rt: &R, image: &Image) -> Option<bool> {
     let mut record = record_of(rt.alloc(), image, 0, 18)?;
@@ -95,7 +95,7 @@ fn a_refused_request_ends_a_drive_and_is_asked_again(rt: HostRuntime) {
     assert!(rt; goes == Some(true));
 }
 
-/// What a drive leaves where the memory behind a lock has no room for an entry.
+/// What a drive leaves if the memory in a lock has no room for an entry.
 fn left_without_room<R: AllocGlobal + Wait>(
     rt: &R,
     image: &Image,

@@ -131,7 +131,7 @@ fn woven_of<'i, R: AllocGlobal + Clock + Threads + Wait + Sync>(
     Some((woven, !gate.gave_up()))
 }
 
-/// A session of the debugger over the schedule that such a run hands out.
+/// A session of the debugger over the schedule that such a run returns.
 pub(crate) fn of_session<R: AllocGlobal + Clock + Threads + Wait + Sync>(rt: &R) -> Ended {
     let Some(image) = image_of_two(rt.alloc()) else {
         return Ended::NotMade;

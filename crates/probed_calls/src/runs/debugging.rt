@@ -57,7 +57,7 @@ pub(crate) fn of_debug_engine(alloc: Global, image: &Image) -> Ended {
     }
 }
 
-/// How many lines are answered, how many are refused memory, and what is written behind them.
+/// How many lines are answered, how many are refused memory, and what is written after them.
 fn answers(written: &[u8]) -> (usize, usize, &[u8]) {
     let (mut answered, mut refused, mut rest) = (0usize, 0usize, written);
     for answer in ANSWERS {

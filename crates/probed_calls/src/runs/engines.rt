@@ -87,12 +87,12 @@ pub(crate) fn of_list_engine(alloc: Global, image: &Image) -> Ended {
     }
 }
 
-/// What stands behind these lines; none where they do not stand first.
+/// What stands after these lines; none if they do not stand first.
 fn behind<'a>(text: &'a [u8], lines: &str) -> Option<&'a [u8]> {
     text.strip_prefix(lines.as_bytes())
 }
 
-/// Whether a text is these lines, and behind them what the program comes to.
+/// Whether a text is these lines, and after them what the program comes to.
 fn is_report(text: &[u8], lines: &str) -> bool {
     behind(text, lines) == Some(END.as_bytes())
 }

@@ -86,7 +86,7 @@ pub(crate) fn of_gather<R: AllocGlobal + Threads + Wait + Sync>(rt: &R, image: &
     }
 }
 
-/// How a run that hands out its schedule ended.
+/// How a run that returns its schedule ended.
 fn threaded_ended<'i>(alloc: Global, run: Result<Woven<'i, 2>, ThreadsFault<'i, 2>>) -> Ended {
     match run {
         Ok(woven) => gather_ended(alloc, Ok(woven)),
