@@ -54,7 +54,7 @@ def constant(text):
 def module(page, source, text, made):
     """The module of a file's text, or of a part of it; of two pages that have the same text it is the same."""
     place = (page.folder / source).resolve().relative_to(HERE.parent)
-    held = f"//! A text of the page: {place}. Made by page/embed.py.\n\n" + constant(text)
+    held = f"//! A text of the page: `{place}`. Made by `page/embed.py`.\n\n" + constant(text)
     name, _, kind = pathlib.Path(source).name.partition(".")
     name = f"{name}_{'style' if kind == 'css' else 'script'}"
     if source == page.template:
@@ -84,7 +84,7 @@ def section(kind, place, calls):
 def shared_function(name, source):
     """The function that adds a text to pages of other crates too."""
     return (
-        f"\n/// Adds the text of page/{source.name}, which other pages have too.\n"
+        f"\n/// Adds the text of `page/{source.name}`, which other pages have too.\n"
         + f"pub fn {pusher(name)}(page: &mut String) -> Result<(), AllocError> {{\n"
         + f"    page.push_str({name}::TEXT)\n}}\n"
     )
@@ -122,7 +122,7 @@ def files(crate, pages, users):
                 shared[name] = shared_function(name, path)
         functions += "".join(section(kind, *both) for both in zip(SECTIONS, sections, strict=True))
     parts = (
-        "//! The texts of a page. Made by page/embed.py of the files in page/.\n\n"
+        "//! The texts of a page. Made by `page/embed.py` of the files in `page/`.\n\n"
         + "".join(f"mod {name};\n" for name in sorted(made))
         + "\n"
         + imports(taken)

@@ -1,4 +1,4 @@
-//! The texts of a page. Made by page/embed.py of the files in page/.
+//! The texts of a page. Made by `page/embed.py` of the files in `page/`.
 
 mod base_style;
 mod both_script;
@@ -39,27 +39,27 @@ mod world_script;
 
 use std::alloc::AllocError;
 
-/// Adds the text of page/base.css, which other pages have too.
+/// Adds the text of `page/base.css`, which other pages have too.
 pub fn push_base_style(page: &mut String) -> Result<(), AllocError> {
     page.push_str(base_style::TEXT)
 }
 
-/// Adds the text of page/elements.js, which other pages have too.
+/// Adds the text of `page/elements.js`, which other pages have too.
 pub fn push_elements_script(page: &mut String) -> Result<(), AllocError> {
     page.push_str(elements_script::TEXT)
 }
 
-/// Adds the text of page/program.js, which other pages have too.
+/// Adds the text of `page/program.js`, which other pages have too.
 pub fn push_program_script(page: &mut String) -> Result<(), AllocError> {
     page.push_str(program_script::TEXT)
 }
 
-/// Adds the text of page/sentences.js, which other pages have too.
+/// Adds the text of `page/sentences.js`, which other pages have too.
 pub fn push_sentences_script(page: &mut String) -> Result<(), AllocError> {
     page.push_str(sentences_script::TEXT)
 }
 
-/// Adds the text of page/values.js, which other pages have too.
+/// Adds the text of `page/values.js`, which other pages have too.
 pub fn push_values_script(page: &mut String) -> Result<(), AllocError> {
     page.push_str(values_script::TEXT)
 }

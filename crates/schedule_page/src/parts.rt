@@ -1,4 +1,4 @@
-//! The texts of a page. Made by page/embed.py of the files in page/.
+//! The texts of a page. Made by `page/embed.py` of the files in `page/`.
 
 mod actions_script;
 mod chips_script;

@@ -1,4 +1,4 @@
-//! A text of the page: page/gallery/gallery.css. Made by page/embed.py.
+//! A text of the page: `page/gallery/gallery.css`. Made by `page/embed.py`.
 
 pub(crate) const TEXT: &str = r#"/* The page that leads to all others. */
 body { max-width: 1500px; margin: 0 auto; width: 100%; }

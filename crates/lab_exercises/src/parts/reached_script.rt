@@ -1,4 +1,4 @@
-//! A text of the page: page/gallery/reached.js. Made by page/embed.py.
+//! A text of the page: `page/gallery/reached.js`. Made by `page/embed.py`.
 
 pub(crate) const TEXT: &str =
     r#"// The page that leads to pages of programs, which stand as JSON in #gallery-data (docs/PLAY.md, "A gallery").

@@ -1,4 +1,4 @@
-//! A text of the page: page/gallery/runs.js. Made by page/embed.py.
+//! A text of the page: `page/gallery/runs.js`. Made by `page/embed.py`.
 
 pub(crate) const TEXT: &str =
     r#"// ---------------------------------------------------------------- a run as a small picture

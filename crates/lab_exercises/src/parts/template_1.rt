@@ -1,4 +1,4 @@
-//! A text of the page: page/gallery/gallery.html.template. Made by page/embed.py.
+//! A text of the page: `page/gallery/gallery.html.template`. Made by `page/embed.py`.
 
 pub(crate) const TEXT: &str = r#"<!doctype html>
 <html lang="en">

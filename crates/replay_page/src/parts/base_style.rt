@@ -1,4 +1,4 @@
-//! A text of the page: page/base.css. Made by page/embed.py.
+//! A text of the page: `page/base.css`. Made by `page/embed.py`.
 
 pub(crate) const TEXT: &str =
     r#"/* The colours and what all pages have. Colour tells outcomes and full words alone, and each has a shape of its own

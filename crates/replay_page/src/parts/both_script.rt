@@ -1,4 +1,4 @@
-//! A text of the page: page/pair/both.js. Made by page/embed.py.
+//! A text of the page: `page/pair/both.js`. Made by `page/embed.py`.
 
 pub(crate) const TEXT: &str =
     r#"// ---------------------------------------------------------------- both runs on the chart, and where they part

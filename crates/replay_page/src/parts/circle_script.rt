@@ -1,4 +1,4 @@
-//! A text of the page: page/circle.js. Made by page/embed.py.
+//! A text of the page: `page/circle.js`. Made by `page/embed.py`.
 
 pub(crate) const TEXT: &str =
     r#"// ---------------------------------------------------------------- who waits for whom, drawn

@@ -1,4 +1,4 @@
-//! A text of the page: page/columns.js. Made by page/embed.py.
+//! A text of the page: `page/columns.js`. Made by `page/embed.py`.
 
 pub(crate) const TEXT: &str =
     r#"// ---------------------------------------------------------------- columns: a step each, or a run of alike steps folded

@@ -1,4 +1,4 @@
-//! A text of the page: page/deciding.js. Made by page/embed.py.
+//! A text of the page: `page/deciding.js`. Made by `page/embed.py`.
 
 pub(crate) const TEXT: &str =
     r#"// ---------------------------------------------------------------- the step that decides how a run ended

@@ -1,4 +1,4 @@
-//! A text of the page: page/elements.js. Made by page/embed.py.
+//! A text of the page: `page/elements.js`. Made by `page/embed.py`.
 
 pub(crate) const TEXT: &str = r#""use strict";
 // What all pages are made of: elements, and names of several things. Text becomes text nodes, never markup.

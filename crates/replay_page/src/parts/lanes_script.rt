@@ -1,4 +1,4 @@
-//! A text of the page: page/lanes.js. Made by page/embed.py.
+//! A text of the page: `page/lanes.js`. Made by `page/embed.py`.
 
 pub(crate) const TEXT: &str =
     r#"// ---------------------------------------------------------------- lanes: their places from top to bottom

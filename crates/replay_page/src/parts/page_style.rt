@@ -1,4 +1,4 @@
-//! A text of the page: page/page.css. Made by page/embed.py.
+//! A text of the page: `page/page.css`. Made by `page/embed.py`.
 
 pub(crate) const TEXT: &str = r#"/* The page of a run. */
 .more { display: block; width: 100%; padding: 6px 12px; border: 0; background: var(--faint); color: var(--done);

@@ -1,4 +1,4 @@
-//! A text of the page: page/pair/pair.css. Made by page/embed.py.
+//! A text of the page: `page/pair/pair.css`. Made by `page/embed.py`.
 
 pub(crate) const TEXT: &str = r#"/* The page of two runs. */
 #end.pair { display: block; }

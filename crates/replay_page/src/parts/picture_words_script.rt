@@ -1,4 +1,4 @@
-//! A text of the page: page/picture_words.js. Made by page/embed.py.
+//! A text of the page: `page/picture_words.js`. Made by `page/embed.py`.
 
 pub(crate) const TEXT: &str =
     r#"// ---------------------------------------------------------------- the picture: words, and who met them

@@ -1,4 +1,4 @@
-//! A text of the page: page/program.js. Made by page/embed.py.
+//! A text of the page: `page/program.js`. Made by `page/embed.py`.
 
 pub(crate) const TEXT: &str =
     r#"// ---------------------------------------------------------------- places of the program and words by name

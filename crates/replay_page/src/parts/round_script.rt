@@ -1,4 +1,4 @@
-//! A text of the page: page/round.js. Made by page/embed.py.
+//! A text of the page: `page/round.js`. Made by `page/embed.py`.
 
 pub(crate) const TEXT: &str =
     r#"// ---------------------------------------------------------------- a round: steps that come back to the same state

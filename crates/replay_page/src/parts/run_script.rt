@@ -1,4 +1,4 @@
-//! A text of the page: page/run.js. Made by page/embed.py.
+//! A text of the page: `page/run.js`. Made by `page/embed.py`.
 
 pub(crate) const TEXT: &str =
     r#"// Shows a run, or two, which stand as JSON in #run (docs/LAB_REFERENCE.md has its form). The script computes nothing of

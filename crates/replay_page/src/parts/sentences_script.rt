@@ -1,4 +1,4 @@
-//! A text of the page: page/sentences.js. Made by page/embed.py.
+//! A text of the page: `page/sentences.js`. Made by `page/embed.py`.
 
 pub(crate) const TEXT: &str =
     r#"// ---------------------------------------------------------------- a step in a sentence, in the words of `mta_lab view`

@@ -1,4 +1,4 @@
-//! A text of the page: page/source.js. Made by page/embed.py.
+//! A text of the page: `page/source.js`. Made by `page/embed.py`.
 
 pub(crate) const TEXT: &str =
     r#"// ---------------------------------------------------------------- the source: a window of its lines, with marks

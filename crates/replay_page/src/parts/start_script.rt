@@ -1,4 +1,4 @@
-//! A text of the page: page/start.js. Made by page/embed.py.
+//! A text of the page: `page/start.js`. Made by `page/embed.py`.
 
 pub(crate) const TEXT: &str =
     r#"// ---------------------------------------------------------------- the page of one run begins

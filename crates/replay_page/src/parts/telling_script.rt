@@ -1,4 +1,4 @@
-//! A text of the page: page/telling.js. Made by page/embed.py.
+//! A text of the page: `page/telling.js`. Made by `page/embed.py`.
 
 pub(crate) const TEXT: &str =
     r#"// ---------------------------------------------------------------- what is told in words: waits, steps, findings

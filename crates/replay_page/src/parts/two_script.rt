@@ -1,4 +1,4 @@
-//! A text of the page: page/pair/two.js. Made by page/embed.py.
+//! A text of the page: `page/pair/two.js`. Made by `page/embed.py`.
 
 pub(crate) const TEXT: &str =
     r#"// ---------------------------------------------------------------- the page of two runs: the shown one and the other

@@ -1,4 +1,4 @@
-//! A text of the page: page/values.js. Made by page/embed.py.
+//! A text of the page: `page/values.js`. Made by `page/embed.py`.
 
 pub(crate) const TEXT: &str =
     r#"// ---------------------------------------------------------------- numbers, codes, tags and traps as texts

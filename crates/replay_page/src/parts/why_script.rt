@@ -1,4 +1,4 @@
-//! A text of the page: page/why.js. Made by page/embed.py.
+//! A text of the page: `page/why.js`. Made by `page/embed.py`.
 
 pub(crate) const TEXT: &str =
     r#"// ---------------------------------------------------------------- why: the steps that a value comes from

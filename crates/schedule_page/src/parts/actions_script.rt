@@ -1,4 +1,4 @@
-//! A text of the page: page/play/actions.js. Made by page/embed.py.
+//! A text of the page: `page/play/actions.js`. Made by `page/embed.py`.
 
 pub(crate) const TEXT: &str =
     r#"// ---------------------------------------------------------------- what the steps of the way did

@@ -1,4 +1,4 @@
-//! A text of the page: page/play/chips.js. Made by page/embed.py.
+//! A text of the page: `page/play/chips.js`. Made by `page/embed.py`.
 
 pub(crate) const TEXT: &str =
     r#"// ---------------------------------------------------------------- ends that are alike, as one chip

@@ -1,4 +1,4 @@
-//! A text of the page: page/play/claims.js. Made by page/embed.py.
+//! A text of the page: `page/play/claims.js`. Made by `page/embed.py`.
 
 pub(crate) const TEXT: &str =
     r#"// ---------------------------------------------------------------- claims that do not hold: who is inside

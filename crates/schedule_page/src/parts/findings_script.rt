@@ -1,4 +1,4 @@
-//! A text of the page: page/play/findings.js. Made by page/embed.py.
+//! A text of the page: `page/play/findings.js`. Made by `page/embed.py`.
 
 pub(crate) const TEXT: &str =
     r#"// ---------------------------------------------------------------- findings of the way, by docs/FINDINGS.md

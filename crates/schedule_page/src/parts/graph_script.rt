@@ -1,4 +1,4 @@
-//! A text of the page: page/play/graph.js. Made by page/embed.py.
+//! A text of the page: `page/play/graph.js`. Made by `page/embed.py`.
 
 pub(crate) const TEXT: &str =
     r#"// The page on which the reader is the scheduler. #graph-data holds every state that any schedule of the program reaches

@@ -1,4 +1,4 @@
-//! A text of the page: page/play/kept.js. Made by page/embed.py.
+//! A text of the page: `page/play/kept.js`. Made by `page/embed.py`.
 
 pub(crate) const TEXT: &str =
     r#"// ---------------------------------------------------------------- goals that were reached, for the gallery's page

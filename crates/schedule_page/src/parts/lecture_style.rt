@@ -1,4 +1,4 @@
-//! A text of the page: page/play/lecture.css. Made by page/embed.py.
+//! A text of the page: `page/play/lecture.css`. Made by `page/embed.py`.
 
 pub(crate) const TEXT: &str = r#"/* In a lecture: the choices, the lanes and the map, large. */
 .lecture :is(#lead, #source, #ends, #words, #streams, #explored) { display: none; }

@@ -1,4 +1,4 @@
-//! A text of the page: page/play/map.js. Made by page/embed.py.
+//! A text of the page: `page/play/map.js`. Made by `page/embed.py`.
 
 pub(crate) const TEXT: &str =
     r#"// ---------------------------------------------------------------- the map: every state, by the fewest steps to it

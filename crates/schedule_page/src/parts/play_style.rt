@@ -1,4 +1,4 @@
-//! A text of the page: page/play/play.css. Made by page/embed.py.
+//! A text of the page: `page/play/play.css`. Made by `page/embed.py`.
 
 pub(crate) const TEXT: &str = r#"/* The page with every schedule. */
 button { font: inherit; color: inherit; }

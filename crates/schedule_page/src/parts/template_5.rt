@@ -1,4 +1,4 @@
-//! A text of the page: page/play/play.html.template. Made by page/embed.py.
+//! A text of the page: `page/play/play.html.template`. Made by `page/embed.py`.
 
 pub(crate) const TEXT: &str = r#"</script>
 </body>

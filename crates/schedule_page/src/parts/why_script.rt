@@ -1,4 +1,4 @@
-//! A text of the page: page/play/why.js. Made by page/embed.py.
+//! A text of the page: `page/play/why.js`. Made by `page/embed.py`.
 
 pub(crate) const TEXT: &str =
     r#"// ---------------------------------------------------------------- why a step is a good one, by the graph alone
