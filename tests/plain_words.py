@@ -35,19 +35,26 @@ WORDS_ALONE = ("share/man/man1/*.1", "crates/lab_command_line/src/help.rt", "cra
 # the crates of the lab whose code has none of the words of OF_CODE_TOO, and rooms that are built without them: of these some
 # may not be there yet. A crate that gets rid of the words is added (--clean).
 HELD_CODE = (
+    # what runs do
+    "waiting", "end_kinds", "step_views", "run_findings", "whole_runs", "value_origins", "run_rounds",
     # who waits, and every schedule
     "stream_waits", "same_futures", "dead_registers", "agreeing_ends", "terminal_components", "busy_streams",
-    "changed_words", "first_findings", "schedule_turns", "fair_rounds",
+    "changed_words", "first_findings", "schedule_turns", "fair_rounds", "reachable_places", "local_steps",
+    "schedule_space", "starving_streams",
     # what is expected, and how programs end
-    "expectations", "end_states", "space_ends", "expectation_messages", "work_rules", "seed_work",
+    "expectations", "end_states", "space_ends", "expectation_messages", "work_rules", "seed_work", "claims",
+    "program_rules", "schedule_verdicts",
     # what is said of source texts, and edits of them
-    "source_edits", "source_fixes",
+    "source_edits", "source_fixes", "plain_text", "editor_texts", "source_places", "source_comments", "case_cells",
+    "source_slips", "source_checks",
     # what the lab shows
-    "image_machines", "space_graphs", "program_pages",
+    "image_machines", "space_graphs", "program_pages", "lab_json", "lab_ends", "replay_page", "schedule_page",
+    "named_session", "value_reasons", "editor_wire",
     # its commands, and what decides for them
     "lab_command_line", "output_files", "program_searches", "endless_waits", "judgements", "lab_views", "lab_pages",
     "lab_surveys", "lab_adapter", "lab_language", "class_results", "end_goals", "seed_outcomes", "exercise_advice",
     "named_files", "asked_programs", "search_texts", "printed_lines", "grade_reports", "result_lines", "submission_rows",
+    "lab_requests", "lab_explorer", "lab_grades",
 )
 EASE, LONGEST = 60, 30
 # a word that readers stumble over, and what to write: those that code has not either, and those of documents alone
