@@ -32,7 +32,7 @@ const upper = (text) => text[0].toUpperCase() + text.slice(1);
 function showGoals() {
   const focused = document.activeElement?.dataset?.goal;
   const free = html("button", { type: "button", class: "goal free", "data-goal": "free",
-    "aria-pressed": String(view.goal === null) }, "Look around");
+    "aria-pressed": String(!hasGoal()) }, "Look around");
   free.addEventListener("click", () => setGoal(null));
   const nodes = goalOrder.map((e) => {
     const best = won.get(e);
@@ -42,20 +42,33 @@ function showGoals() {
     node.addEventListener("click", () => setGoal(e));
     return node;
   });
-  byId("goals").replaceChildren(html("span", {}, "Your goal:"), free, ...nodes);
+  byId("goals").replaceChildren(html("span", {}, "Your goal:"), free, ...nodes, ...waiterNodes());
   if (focused) byId("goals").querySelector(`[data-goal="${focused}"]`)?.focus();
 }
 
-function setGoal(e) {
+/** The goals of streams that can wait forever. */
+function waiterNodes() {
+  return waiters.slice(0, WAITERS).map(({ k }) => {
+    const best = won.get(waitingText(k));
+    const node = html("button", { type: "button", class: "goal", "data-goal": `waits ${names[k]}`,
+      "aria-pressed": String(view.waiter === k) }, upper(waitingText(k)),
+      ...(best === undefined ? [] : [html("span", { class: "done" }, `✓ ${steps(best)}`)]));
+    node.addEventListener("click", () => setGoal(null, k));
+    return node;
+  });
+}
+
+/** Begins anew, with an end as the goal, or with a stream that is to wait forever. */
+function setGoal(e, waiter = null) {
   stop();
-  view.goal = e;
-  view.ahead = e === null;
-  Object.assign(view, { hints: 0, shown: null, hinted: null, vote: null, at: 0 });
+  view.ahead = e === null && waiter === null;
+  Object.assign(view, { goal: e, waiter, hints: 0, shown: null, hinted: null, vote: null, at: 0 });
   way = [];
   refresh();
 }
 
 function hint() {
+  if (view.waiter !== null) return hintOfWaiter();
   if (view.goal === null) return say([html("b", {}, "A hint needs a goal."), " Choose one above."]);
   const left = toGo[view.goal][here()];
   if (left === 0) return say([html("b", {}, "You are there.")]);

@@ -2,6 +2,10 @@
 
 function lead() {
   const running = names.filter((_, k) => runs(0, k));
+  if (view.waiter !== null) {
+    return [html("b", {}, `${upper(waitingText(view.waiter))}.`), waitingRule(view.waiter),
+      "You choose who takes the next step: press a button below or its number."];
+  }
   if (view.goal !== null) {
     return [html("b", {}, `${upper(goalText(view.goal))}.`),
       ` Fewest steps${begunSteps ? " after those that are given" : ""}: ${data.ends[view.goal].shortest}. `
@@ -59,9 +63,10 @@ const scheduleText = () => data.begin + linkText().split(",").filter(Boolean).ma
 /** What was reached, for a mail or a form: the program, the goal, the steps, and the way as a link's end. */
 function resultText() {
   const e = endHere();
-  const goal = view.goal === null ? "none" : goalText(view.goal);
-  const isReached = view.goal !== null && e === view.goal && !view.shown;
-  const outcome = e === undefined ? "not at an end" : endText(e);
+  const isWaiting = roundHere(view.waiter) !== null;
+  const goal = view.waiter !== null ? waitingText(view.waiter) : view.goal === null ? "none" : goalText(view.goal);
+  const isReached = isWaiting || (view.goal !== null && e === view.goal && !view.shown);
+  const outcome = isWaiting ? "in a round" : e === undefined ? "not at an end" : endText(e);
   const help = view.hints ? ` with ${count(view.hints, "hint", "hints")}` : "";
   return [`Program: ${data.name}`, `Goal: ${goal}${isReached ? `, reached${help}` : ""}`, `State: ${outcome}`,
     `Steps: ${view.at}`, `Way: #${linkText()}`, ""].join("\n");
@@ -83,7 +88,7 @@ function show() {
   byId("where").textContent = `${steps(view.at)}${fewest}`;
   for (const id of ["reset", "undo"]) byId(id).setAttribute("aria-disabled", String(view.at === 0));
   byId("redo").setAttribute("aria-disabled", String(view.at === way.length));
-  byId("hint").hidden = view.goal === null;
+  byId("hint").hidden = !hasGoal();
   byId("ahead").hidden = data.ends.length < 2;
   byId("ahead").setAttribute("aria-pressed", String(view.ahead));
   byId("lecture").setAttribute("aria-pressed", String(view.lecture));
@@ -105,7 +110,7 @@ function goTo(n, isPlayed) {
   Object.assign(view, { hinted: null, vote: null });
   if (view.at === 0 && !isPlayed) {
     Object.assign(view, { hints: 0, shown: null });
-    if (view.goal !== null) way = []; // a game begins anew
+    if (hasGoal()) way = []; // a game begins anew
   }
   refresh();
   view.voted = "";

@@ -4,7 +4,7 @@
 
 const data = JSON.parse(byId("graph-data").textContent);
 const head = data; // the program, its source and data, for what all pages name by it
-const view = { at: 0, hex: false, ahead: true, goal: null, hints: 0, hinted: null, told: null, timer: 0,
+const view = { at: 0, hex: false, ahead: true, goal: null, waiter: null, hints: 0, hinted: null, told: null, timer: 0,
   shown: null, lecture: false, vote: null, ballots: [], voted: "" };
 
 const count = (n, one, many) => (n === 1 ? `1 ${one}` : `${n.toLocaleString("en")} ${many}`);

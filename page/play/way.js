@@ -28,8 +28,13 @@ function turnedIn(a, n) {
 /** Whether what can still come is shown: as the reader wants it, and where a game is at an end; never in a vote. */
 const isAheadShown = () => !view.vote && (view.ahead || (view.goal !== null && endHere() !== undefined));
 
-/** The end that is reached here: that of the goal, if it is one of them. */
+/** Whether the reader has a goal: an end, or a stream that is to wait forever. */
+const hasGoal = () => view.goal !== null || view.waiter !== null;
+
+/** The end that is reached here: that of the goal, if it is one of them. A loop that is never left is no end if the
+  goal is that a stream waits in it. */
 function endHere() {
   const w = here();
+  if (view.waiter !== null && data.ends[endIn.get(w)]?.kind === "spinning") return undefined;
   return view.goal !== null && toGo[view.goal][w] === 0 ? view.goal : endIn.get(w);
 }

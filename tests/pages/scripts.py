@@ -6,6 +6,7 @@ import of_page_sentences
 import of_readme
 import of_sentences
 import of_verdicts
+import of_waiting
 import of_why
 import stand_in
 
@@ -17,5 +18,6 @@ ALL = {
     "sentences": of_sentences.part,
     "page_sentences": of_page_sentences.part,
     "why": of_why.part,
+    "waiting": of_waiting.part,
 }
 opened = stand_in.opened

@@ -26,6 +26,8 @@ mod template_2;
 mod template_3;
 mod template_4;
 mod template_5;
+mod waiters_script;
+mod waiting_script;
 mod way_script;
 mod why_script;
 
@@ -64,6 +66,8 @@ pub(crate) fn push_tail(page: &mut String) -> Result<(), AllocError> {
     page.push_str(actions_script::TEXT)?;
     page.push_str(findings_script::TEXT)?;
     page.push_str(effects_script::TEXT)?;
+    page.push_str(waiters_script::TEXT)?;
+    page.push_str(waiting_script::TEXT)?;
     page.push_str(claims_script::TEXT)?;
     page.push_str(telling_script::TEXT)?;
     page.push_str(why_script::TEXT)?;

@@ -71,6 +71,7 @@ function scheduleSteps(text) {
 }
 
 function goalLine(e) {
+  if (view.waiter !== null) return [html("li", { class: "won" }, `Your goal is another: ${waitingText(view.waiter)}.`)];
   if (view.goal === null) return [];
   if (!view.shown) keepReached(e, view.at);
   const fewest = data.ends[view.goal].shortest;
@@ -125,11 +126,21 @@ function shortestFindings(end, isOwn) {
 
 let hadFocus = false; // whether the focus is on a button of the result, which is made anew
 
+/** Shows that the stream waits forever that is to wait. */
+function showWaiting(box) {
+  box.className = "reached";
+  return box.replaceChildren(html("span", { class: "sign reached", "aria-hidden": "true" }, "★"),
+    html("h2", {}, `Goal reached: ${names[view.waiter]} waits forever`), html("ul", {}, ...waitingLines(view.waiter)),
+    html("div", { class: "actions" }, button("Start again", () => goTo(0))));
+}
+
 function showResult() {
   const e = endHere();
   const box = byId("result");
+  const isWaiting = roundHere(view.waiter) !== null;
   hadFocus = box.contains(document.activeElement);
-  box.hidden = e === undefined;
+  box.hidden = e === undefined && !isWaiting;
+  if (isWaiting) return showWaiting(box);
   if (e === undefined) return box.replaceChildren();
   const [lines, isTold, n] = resultLines(e);
   const actions = [button("Start again", () => goTo(0))];
