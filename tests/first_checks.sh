@@ -4,19 +4,32 @@
 # wrong bodies, those that editors know, and that each must-fail edit can be applied. A line says what is not so; the last one counts the checks.
 set -u
 cd "$(dirname "$0")/.." || exit 1
-passed=0
-failed=0
+room=$(mktemp -d)
+trap 'rm -rf "$room"' EXIT
+asked=()
 
-# verdict WHAT: counts a check, which holds where standard input is empty; else each line of it says what is not so
-verdict() {
-  local found
-  found=$(cat)
-  if [ -z "$found" ]; then
-    passed=$((passed + 1))
-  else
-    failed=$((failed + 1))
-    printf '%s:\n%s\n' "$1" "$found"
-  fi
+# check WHAT COMMAND..: begins a check, which holds if the command prints nothing; else each line says what is not so. The
+# checks run side by side
+check() {
+  asked+=("$1")
+  shift
+  "$@" >"$room/${#asked[@]}" 2>&1 &
+}
+
+# verdicts: waits for all checks, says in their order what is not so, and counts them
+verdicts() {
+  local at passed=0 found
+  wait
+  for at in "${!asked[@]}"; do
+    found=$(cat "$room/$((at + 1))")
+    if [ -z "$found" ]; then
+      passed=$((passed + 1))
+    else
+      printf '%s:\n%s\n' "${asked[at]}" "$found"
+    fi
+  done
+  echo "$passed passed, $((${#asked[@]} - passed)) failed"
+  [ "$passed" -eq "${#asked[@]}" ]
 }
 
 sources() { find crates -path '*/out' -prune -o \( -name '*.rt' -o -name '*.antt' \) -print; }
@@ -129,26 +142,28 @@ operation_table() {
   diff <(echo "$document") <(echo "$definition")
 }
 
-verdict "files in another layout than rt fmt's" < <(sources | xargs "$(rattle)" fmt --check 2>&1)
-verdict "texts that cite what a reader has not" < <(citations)
-verdict "links that lead nowhere" < <(links)
-verdict "headings that are not there" < <(python3 tests/headings.py 2>&1)
-verdict "another logic" < <(kit)
-verdict "versions" < <(version)
-verdict "crates without a line" < <(described)
-verdict "the table of crates" < <(python3 tests/crates.py check 2>&1)
-verdict "documents of crates" < <(about_crates)
-verdict "wrong bodies without a name" < <(wrong_bodies)
-verdict "the operation table, in docs/MACHINE.md (<) and in Row.antt (>)" < <(operation_table)
-verdict "what to trust" < <(python3 tests/trust --check 2>&1)
-verdict "promises that README.md names, and roots of what to trust" < <(python3 tests/trust --named 2>&1)
-verdict "counts that change with each row" < <(counts)
-verdict "words and sentences that are not plain, in documents and in code" < <(python3 tests/plain_words.py 2>&1)
-verdict "names that editors don't know" < <(tests/editors.sh | grep -v '^the syntax files')
-verdict "what a trap means, in texts that differ" < <(python3 tests/trap_texts.py 2>&1)
-verdict "constants of the page" < <(python3 page/embed.py --check 2>&1)
-verdict "the cheat sheet and the pages of explain" < <(python3 docs/words/make.py --check 2>&1)
-verdict "completions and the man page of mta_lab" < <(python3 share/make --check 2>&1)
-verdict "edits that can't be applied" < <(python3 tests/edits.py --apply 2>&1)
-echo "$passed passed, $failed failed"
-[ "$failed" -eq 0 ]
+layout() { sources | xargs "$(rattle)" fmt --check; }
+editors() { tests/editors.sh | grep -v '^the syntax files'; }
+
+check "files in another layout than rt fmt's" layout
+check "texts that cite what a reader has not" citations
+check "links that lead nowhere" links
+check "headings that are not there" python3 tests/headings.py
+check "another logic" kit
+check "versions" version
+check "crates without a line" described
+check "the table of crates" python3 tests/crates.py check
+check "documents of crates" about_crates
+check "wrong bodies without a name" wrong_bodies
+check "the operation table, in docs/MACHINE.md (<) and in Row.antt (>)" operation_table
+check "what to trust" python3 tests/trust --check
+check "promises that README.md names, and roots of what to trust" python3 tests/trust --named
+check "counts that change with each row" counts
+check "words and sentences that are not plain, in documents and in code" python3 tests/plain_words.py
+check "names that editors don't know" editors
+check "what a trap means, in texts that differ" python3 tests/trap_texts.py
+check "constants of the page" python3 page/embed.py --check
+check "the cheat sheet and the pages of explain" python3 docs/words/make.py --check
+check "completions and the man page of mta_lab" python3 share/make --check
+check "edits that can't be applied" python3 tests/edits.py --apply
+verdicts
