@@ -6,3 +6,8 @@ pub mod Shortest
 pub mod Loops
 pub mod Waits
 pub mod Searches
+-- Of crates below, passed on to callers.
+pub mod EndlessWaits
+pub mod EndlessWaitsTypes
+pub mod StarvingStreams
+pub mod StarvingStreamsTypes

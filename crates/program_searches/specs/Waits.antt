@@ -5,7 +5,7 @@ use Rattle.processor.specs.declared.steps.Step.{Step}
 use Rattle.space_ends.specs.ScheduleSpace.Spaces.{count}
 use Rattle.endless_waits.specs.StarvingStreams.Starving.{NobodyWaits}
 use Rattle.endless_waits.specs.StarvingStreamsTypes.Starving.{Starving}
-use Rattle.endless_waits.specs.Waits.{IsSoOfWaits, is_nobody, why_not, why_not_in}
+use Rattle.endless_waits.specs.Waits.{IsSoOfWaits, is_nobody, shown_in, why_not, why_not_in}
 use Rattle.endless_waits.specs.declared.extents.SearchExtent.{SearchExtent}
 use Rattle.endless_waits.specs.declared.extents.SearchExtent.TheVariants as extent
 use Rattle.endless_waits.specs.declared.waits.EndlessWaits.{EndlessWaits}
@@ -31,7 +31,12 @@ abbrev pub says_nobody : Option EndlessWaits → Bool
 says_nobody None = false
 says_nobody (Some w) = is_nobody w
 
--- whether that is said where it is required
+-- the streams that are shown to wait for ever
+abbrev pub starving_in : Option EndlessWaits → List Starving
+starving_in None = []
+starving_in (Some w) = shown_in w
+
+-- whether it is said where it is required that nobody can
 abbrev pub is_unstarved : Requirements → Option EndlessWaits → Bool
 is_unstarved required w = not (is_some required.never_starved) || says_nobody w
 

@@ -14,7 +14,7 @@ mod waits;
 mod watching;
 
 pub use bounds::{SearchBound, USUAL_MEGABYTES};
-pub use endless_waits as waiting;
+pub use endless_waits as endless;
 pub use explored::Explored;
 pub use laws::no_schedule_to_it_is_shorter;
 pub use searches::{ProgramSearch, SearchFault, explore_program};

@@ -4,9 +4,9 @@ ghost use Rattle.std.specs.Prelude.{◌≡◌};
 ghost use Rattle.program_searches.specs.Statuses.{is_starved, status_of_unkept};
 ghost use Rattle.program_searches.specs.Waits.{first_waiting, unkept_waits};
 
+use end_kinds::Status;
 use endless_waits::starving::Starving;
 use endless_waits::{EndlessWaits, Unanswered};
-use end_kinds::Status;
 use processor::Step;
 
 /// Why it is not known that nobody can wait forever.
@@ -56,9 +56,7 @@ impl Unkept {
     {
         match self.waits {
             Some(UnkeptWaits::Starved(_)) => true,
-            Some(
-                UnkeptWaits::Undecided(_) | UnkeptWaits::Unanswered(_) | UnkeptWaits::RunsAlone,
-            )
+            Some(UnkeptWaits::Undecided(_) | UnkeptWaits::Unanswered(_) | UnkeptWaits::RunsAlone)
             | None => false,
         }
     }

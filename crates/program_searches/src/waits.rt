@@ -17,10 +17,7 @@ use std::alloc::{AllocError, Global};
 
 /// Who can wait forever in a program of which this search was made, whatever is required of it. That is asked exactly if the
 /// search looked for all states, has all, and they are no more than 100,000.
-pub fn endless_waits_of(
-    alloc: Global,
-    found: &Explored<'_>,
-) -> Result<EndlessWaits, AllocError>
+pub fn endless_waits_of(alloc: Global, found: &Explored<'_>) -> Result<EndlessWaits, AllocError>
     ensures asked { IfOk result (λ w. why_not_in w ≡ why_not (extent_of found.now) (count found.now.space)) }
     ensures tells { IfOk result (λ w. (image : ImageValue) (asked : ProgramSearch) → IsExplored image asked found.now
         → TellsWhoWaits image asked.begin.now w) }
