@@ -126,10 +126,7 @@ fn judged_by_search(alloc: Global, found: Explored<'_>) -> Result<CaseJudgement,
 }
 
 /// What a program is by what a search found, and for which reason.
-fn decided_by(
-    alloc: Global,
-    found: &Explored<'_>,
-) -> Result<(VerdictKind, Reason), AllocError>
+fn decided_by(alloc: Global, found: &Explored<'_>) -> Result<(VerdictKind, Reason), AllocError>
     ensures right { IfOk result (λ d. d.0 ≡ VerdictKind.Right → IsTrue found.now.is_right) }
     ensures shown { IfOk result (λ d. (p : JudgedAs) → IsFound p.limits p.image p.required found.now
         → IsShownFor p found.now.ends.items d.0 d.1) }

@@ -12,7 +12,9 @@ use lab_requests::{Bounds, SurveyRequest};
 use lab_texts::{Notation, ProgramNames};
 use plain_text::push_plain;
 use program_rules::first_broken;
-use search_texts::searches::{Console, Explored, ProgramSearch, Unkept, explore_program};
+use search_texts::searches::{
+    Console, Explored, ProgramSearch, Unkept, UnkeptWaits, explore_program,
+};
 use search_texts::{
     EndCells, EndColumns, LookedAt, end_line, push_expected, push_unkept, push_unkept_objects,
     search_fault,
@@ -137,6 +139,9 @@ fn unkept_by_seeds(
     Ok(Unkept {
         rule: first_broken(&program.image, required.rules()),
         unshown: unshown_by_seeds(alloc, &program.image, required.claims(), tried)?,
+        waits: required
+            .never_starved()
+            .map(|_line: usize| UnkeptWaits::RunsAlone),
         undecided: required.never_busy(),
     })
 }
