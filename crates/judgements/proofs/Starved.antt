@@ -1,4 +1,4 @@
--- A stream that a search shows first can wait for ever, as it is shown.
+-- A stream that a search shows first can wait forever, as it is shown.
 use Rattle.std.specs.Prelude.{IsTrue, IsSome, IfSome, Option, None, Some, is_some, Contains}
 use Rattle.std.proofs.Common.{◌≡◌, ◌∙◌, ◌++◌, ◌≤◌, ℕ, Bool, true, false, List, [], ◌∷◌, length, refl, sym, ap, subst, arith}
 use Rattle.image_file.specs.ImageValue.{ImageValue}
@@ -51,7 +51,7 @@ is_asked : (w : Option EndlessWaits) (y : Starving) → IsFirstStarving (starvin
 is_asked None y first = absurd first
 is_asked (Some w) y first = refl
 
--- a search shows a stream that can wait for ever, where it is required that none can
+-- a search shows a stream that can wait forever, where it is required that none can
 pub starved : (limits : Option SearchLimits) (image : ImageValue) (required : Requirements) (found : Explored) (y : Starving)
     → IsFound limits image required found → IsFirstStarving (starving_in found.waits) y
     → IsStarvedBySchedules limits image required verdict.Wrong y

@@ -99,7 +99,7 @@ comes_with_seeds first works kind (reason.Lacking name) = false
 comes_with_seeds first works kind (reason.NotGiven number) = false
 
 -- what a search came to by which a verdict of this kind is decided: it lists these ends, is complete, shows this stream first
--- that can wait for ever, or says right
+-- that can wait forever, or says right
 abbrev pub HasDecided : Explored → List SpaceEnd → VerdictKind → Reason → Type 0
 HasDecided found ends kind reason.Looked = kind ≡ verdict.Right → IsTrue found.is_right
 HasDecided found ends kind (reason.Run run) = ⊤

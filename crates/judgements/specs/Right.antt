@@ -15,13 +15,13 @@ use Rattle.judgements.specs.Cases.{program_by, said_by, seeds_of, SpeaksOfGivenI
 use Rattle.judgements.specs.declared.cases.Case.{Case}
 use Rattle.judgements.specs.declared.cases.AskedJudging.{AskedJudging}
 
--- Every schedule of a program is right; and nobody can wait for ever, if that is required.
+-- Every schedule of a program is right; and nobody can wait forever, if that is required.
 pub record IsRightBySchedules (image : ImageValue) (required : Requirements) : Type 0 where
   pub right : IsRightThroughout image [] required.ends.items required.claims.items (is_some required.never_busy)
   pub unstarved : IsSome required.never_starved → NobodyWaits image []
 
 -- The run of each seed is right, the runs show each claim that has to hold of one world at least, and it is required neither
--- that no stream loops alone nor that none can wait for ever, which no run shows.
+-- that no stream loops alone nor that none can wait forever, which no run shows.
 pub record IsRightBySeeds (image : ImageValue) (required : Requirements) (seeds : Seeds) : Type 0 where
   pub judged : AreJudged image required.ends.items required.claims.items seeds None
   pub shown : AreShownBySeeds image required.claims.items seeds

@@ -115,7 +115,7 @@ pub record IsUnshownBySchedules (limits : Option SearchLimits) (image : ImageVal
   pub unshown : found.unshown ≡ Some claim
   pub verdict : kind ≡ verdict.Wrong
 
--- A search shows this stream first of those that can wait for ever, which it is required that none can: the schedule leads to
+-- A search shows this stream first of those that can wait forever, which it is required that none can: the schedule leads to
 -- a round in which the stream starves, and no other one leads there in fewer steps.
 pub record IsStarvedBySchedules (limits : Option SearchLimits) (image : ImageValue) (required : Requirements)
     (kind : VerdictKind) (x : Starving) : Type 0 where
@@ -160,7 +160,7 @@ pub record IsBeyondRuns (image : ImageValue) (required : Requirements) (seeds : 
   pub asked : IsSome required.never_busy
   pub verdict : kind ≡ verdict.NotDecided
 
--- The same where it is required that nobody can wait for ever, which no run shows.
+-- The same where it is required that nobody can wait forever, which no run shows.
 pub record IsBeyondRunsOfWaits (image : ImageValue) (required : Requirements) (seeds : Seeds) (kind : VerdictKind)
     : Type 0 where
   pub judged : AreJudged image required.ends.items required.claims.items seeds None

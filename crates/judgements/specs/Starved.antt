@@ -1,4 +1,4 @@
--- Streams that can wait for ever, as a verdict shows them.
+-- Streams that can wait forever, as a verdict shows them.
 use Rattle.std.specs.Prelude.{◌≡◌, List, [], ◌∷◌}
 use Rattle.program_searches.specs.StarvingStreamsTypes.Starving.{Starving}
 

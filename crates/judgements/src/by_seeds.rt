@@ -46,7 +46,7 @@ impl AskedJudging {
 
 /// What random schedules say of a program of which this is required: by the first seed whose run is not right, what is wrong
 /// with that run; where each is right, that it is right, or not decided, where none shows a claim that has to hold of one
-/// world at least, or no stream is to loop alone, or to wait for ever.
+/// world at least, or no stream is to loop alone, or to wait forever.
 pub(crate) fn judged_by_seeds<X: Threads + Sync>(
     rt: &X,
     alloc: Global,

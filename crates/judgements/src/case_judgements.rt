@@ -43,7 +43,7 @@ pub enum Reason {
         /// The place of the first such claim among all.
         claim: usize,
     },
-    /// That this stream can wait for ever, and none is to: the first one that the search shows.
+    /// That this stream can wait forever, and none is to: the first one that the search shows.
     Starved(Starving),
     /// That no run of all seeds shows a claim, which says nothing of other schedules.
     NoRun {
@@ -52,7 +52,7 @@ pub enum Reason {
     },
     /// That no stream is to loop alone, which no run can show.
     NoRunCan,
-    /// That nobody is to wait for ever, which no run can show, and which no search decided, if there was one.
+    /// That nobody is to wait forever, which no run can show, and which no search decided, if there was one.
     OpenWaits,
     /// The rule of programs at this place, which the program breaks.
     Rule(usize),
@@ -98,7 +98,7 @@ pub enum MissedLine {
     Claim(usize),
     /// The first line that says that no stream ever loops alone.
     Busy,
-    /// The first line that says that no stream can wait for ever.
+    /// The first line that says that no stream can wait forever.
     Starved,
     /// A rule of programs.
     Rule(usize),
@@ -191,7 +191,7 @@ impl CaseJudgement {
         judgement
     }
 
-    /// What shows that the submission is not right: of a stream that can wait for ever the schedule that leads to its round.
+    /// What shows that the submission is not right: of a stream that can wait forever the schedule that leads to its round.
     pub fn witness(&self, alloc: Global) -> Result<Witness, AllocError> {
         match &self.reason {
             Reason::Run(run) => Ok(Witness::Seed(run.seed)),

@@ -1,4 +1,4 @@
-//! Which stream a search shows that can wait for ever.
+//! Which stream a search shows that can wait forever.
 
 ghost use Rattle.std.specs.Prelude.{◌≡◌, [], IfOk, IfNone, IfSome};
 ghost use Rattle.program_searches.specs.Waits.{starving_in};
@@ -9,7 +9,7 @@ use program_searches::endless::EndlessWaits;
 use program_searches::endless::starving::Starving;
 use std::alloc::{AllocError, Global};
 
-/// A copy of the first stream that a search shows to wait for ever, with its schedule and round; None where it shows none.
+/// A copy of the first stream that a search shows to wait forever, with its schedule and round; None where it shows none.
 pub(crate) fn first_starving(
     alloc: Global,
     found: &Explored<'_>,

@@ -2,7 +2,7 @@
 
 use crate::written_files::WrittenFiles;
 use command_parts::{Inputs, LabFault, Program};
-use endless_waits::EndlessWaits;
+use search_texts::searches::endless::EndlessWaits;
 use expectation_files::{NEVER_BUSY, NEVER_STARVED, Requirements, WrittenLine};
 use plain_text::stem_of;
 use replay_page::{MOST_STEPS, RunNames, RunVerdict, page_of_run};

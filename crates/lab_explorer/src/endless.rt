@@ -2,8 +2,8 @@
 
 use crate::waiting_objects::push_waits_objects;
 use crate::waiting_text::push_waits_lines;
-use endless_waits::EndlessWaits;
-use endless_waits::starving::StarvingStreams;
+use search_texts::searches::endless::EndlessWaits;
+use search_texts::searches::endless::starving::StarvingStreams;
 use image_file::Image;
 use lab_texts::ProgramNames;
 use processor::Step;

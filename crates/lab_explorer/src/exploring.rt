@@ -7,7 +7,7 @@ use crate::graphs::{GraphedSearch, write_graph};
 use crate::written_files::WrittenFiles;
 use asked_programs::{WarnedProgram, read_warned_program};
 use command_parts::{CommandAnswer, Inputs, LabFault, Program, read_steps, style_of};
-use endless_waits::EndlessWaits;
+use search_texts::searches::endless::EndlessWaits;
 use expectation_files::Requirements;
 use expectation_messages::requirements_of;
 use lab_requests::ExploreRequest;

@@ -1,4 +1,4 @@
--- What a search says of who can wait for ever.
+-- What a search says of who can wait forever.
 use Rattle.std.specs.Prelude.{IsTrue, IsSome, IfSome, Option, None, Some, is_some, not, ◌||◌}
 use Rattle.std.proofs.Common.{◌≡◌, ℕ, Bool, true, false, List, refl, sym, subst}
 use Rattle.image_file.specs.ImageValue.{ImageValue}

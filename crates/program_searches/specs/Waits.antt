@@ -31,7 +31,7 @@ abbrev pub says_nobody : Option EndlessWaits → Bool
 says_nobody None = false
 says_nobody (Some w) = is_nobody w
 
--- the streams that are shown to wait for ever
+-- the streams that are shown to wait forever
 abbrev pub starving_in : Option EndlessWaits → List Starving
 starving_in None = []
 starving_in (Some w) = shown_in w
