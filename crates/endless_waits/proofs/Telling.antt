@@ -1,6 +1,6 @@
 -- What is known of a space of whose search it is asked who can wait forever.
 use Rattle.std.specs.Prelude.{IsTrue, ◌==◌, ◌&&◌, None}
-use Rattle.std.proofs.Common.{◌≡◌, ℕ, Bool, true, false, List, [], ◌∷◌, length, refl, sym, subst, arith}
+use Rattle.std.proofs.Common.{◌≡◌, ℕ, Bool, true, false, List, [], ◌∷◌, length, refl, subst, arith}
 use Rattle.std.specs.Prelude.{Contains}
 use Rattle.std.proofs.lemmas.Bool.{eqb-true}
 use Rattle.std.proofs.lemmas.List.{nil_from_length}
@@ -9,7 +9,7 @@ use Rattle.processor.specs.World.{run}
 use Rattle.processor.specs.declared.steps.Step.{Step}
 use Rattle.starving_streams.specs.ScheduleSpace.Spaces.{SpaceValue}
 use Rattle.starving_streams.specs.Starving.{Starves, CanWaitForEver, NobodyWaits}
-use Rattle.starving_streams.specs.Reports.{HasAllStates, IsShown, TellsWhoStarves}
+use Rattle.starving_streams.specs.Reports.{HasAllStates, IsShown}
 use Rattle.starving_streams.specs.declared.reports.Starving.{Starving}
 use Rattle.endless_waits.specs.Waits.{HasExtent, why_not, is_nobody, shown_in, TellsWhoWaits}
 use Rattle.endless_waits.specs.declared.extents.SearchExtent.{SearchExtent}

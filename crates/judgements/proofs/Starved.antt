@@ -62,7 +62,7 @@ starved (Some limits) image required found y search first = record {
   first = first;
   asked =
       subst (λ (r : Requirements). IsSome r.never_starved) search.asked
-      (sym search.explored.waits.asked ∙ is_asked found.waits y first);
+      (sym search.explored.waits.required ∙ is_asked found.waits y first);
   shown =
       subst (λ (begin : List Step). IsShown image begin y) search.begin
       (shown_by image search.search.begin.now found.waits y search.explored.waits.so first);

@@ -43,8 +43,9 @@ pub(crate) struct SearchJudgement {
 
 /// What every schedule says of a program: the first that holds of any of its ends of a trap, a deadlock, a wrong end, a
 /// broken claim, a set of worlds that spin. Where none does, it is whether some schedule shows each claim that has to hold
-/// of one world at least, and then who can wait forever, where nobody is to. If the search has none of them and did not find all worlds, random schedules are tried: what they
-/// say, and where they say right, that it is not decided. The status is the worst over all.
+/// of one world at least, and then who can wait forever, where nobody is to. If the search has none of them and did not
+/// find all worlds, or not who can wait, random schedules are tried: what they say, and where they say right, that it is
+/// not decided. The status is the worst over all.
 pub(crate) fn judged_by_schedules<X: Threads + Sync, C: Clock, E: Write>(
     rt: &X,
     alloc: Global,

@@ -2,11 +2,11 @@
 
 use crate::written_files::WrittenFiles;
 use command_parts::{Inputs, LabFault, Program};
-use search_texts::searches::endless::EndlessWaits;
 use expectation_files::{NEVER_BUSY, NEVER_STARVED, Requirements, WrittenLine};
 use plain_text::stem_of;
 use replay_page::{MOST_STEPS, RunNames, RunVerdict, page_of_run};
 use search_texts::push_expected;
+use search_texts::searches::endless::EndlessWaits;
 use search_texts::searches::{Explored, UnkeptWaits};
 use space_graphs::ends_in_words::broken_line;
 use space_graphs::ends_of_space::{SpaceEnd, SpaceEndKind};

@@ -2,9 +2,9 @@
 
 use crate::written_files::WrittenFiles;
 use command_parts::{Inputs, LabFault};
+use processor::Step;
 use search_texts::searches::endless::EndlessWaits;
 use search_texts::searches::endless::starving::Starving;
-use processor::Step;
 use std::alloc::{AllocError, Global};
 use std::io::Read;
 use std::rt::Files;

@@ -139,11 +139,18 @@ fn unkept_by_seeds(
     Ok(Unkept {
         rule: first_broken(&program.image, required.rules()),
         unshown: unshown_by_seeds(alloc, &program.image, required.claims(), tried)?,
-        waits: required
-            .never_starved()
-            .map(|_line: usize| UnkeptWaits::RunsAlone),
+        waits: waits_by_runs(required),
         undecided: required.never_busy(),
     })
+}
+
+/// That runs do not decide who can wait forever, if it is required that nobody can.
+fn waits_by_runs(required: &Requirements) -> Option<UnkeptWaits> {
+    if required.never_starved().is_some() {
+        Some(UnkeptWaits::RunsAlone)
+    } else {
+        None
+    }
 }
 
 /// Adds what of the program as a whole is not so, by the states that were looked at.

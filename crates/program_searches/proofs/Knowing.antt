@@ -152,8 +152,8 @@ or_left false b on = cc
 pub all_if_never_busy : (asked : ProgramSearch) → IsSome asked.required.now.never_busy → IsTrue (takes_all asked)
 all_if_never_busy asked some =
     let required = asked.required.now in
-    or_right asked.is_plain (is_some required.never_busy || is_some required.never_starved)
-    (or_left (is_some required.never_busy) (is_some required.never_starved) some)
+    or_left (asked.is_plain || is_some required.never_busy) (is_some required.never_starved)
+    (or_right asked.is_plain (is_some required.never_busy) some)
 
 -- whether there is none
 pub none_if : {A : Type 0} (b : Option A) (t : Bool) → is_some b ≡ not t → t ≡ true → b ≡ None

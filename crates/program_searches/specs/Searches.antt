@@ -27,7 +27,7 @@ use Rattle.program_searches.specs.declared.searches.ProgramSearch.{ProgramSearch
 -- whether all worlds are looked for: where that is asked for, or no stream is to loop alone, or none to wait forever
 abbrev pub takes_all : ProgramSearch → Bool
 takes_all asked =
-    asked.is_plain || (is_some asked.required.now.never_busy || is_some asked.required.now.never_starved)
+    asked.is_plain || is_some asked.required.now.never_busy || is_some asked.required.now.never_starved
 
 -- how many worlds are looked for at most, one at least
 abbrev pub most_worlds : ProgramSearch → ℕ

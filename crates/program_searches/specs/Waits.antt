@@ -55,7 +55,7 @@ unkept_waits (Some (waits.Unanswered u)) = Some (unkept.Unanswered u)
 -- What a search of a program says of who can wait forever.
 pub record SaysWhoWaits (i : ImageValue) (asked : ProgramSearch) (e : Explored) : Type 0 where
   -- It is asked exactly if it is required that nobody can.
-  pub asked : is_some e.waits ≡ is_some asked.required.now.never_starved
+  pub required : is_some e.waits ≡ is_some asked.required.now.never_starved
   -- If it is not answered, that is by how far the search went.
   pub why : IfSome e.waits (λ w. why_not_in w ≡ why_not (extent_of e) (count e.space))
   -- What is said is so of the program.

@@ -87,7 +87,7 @@ returns g c =
       unshown = c.in_ok-unshown.ensures.unshown;
       shown = c.in_ok-unshown.ensures.shown;
       waits = record {
-        asked = c.in_ok-waits.ensures.asked;
+        required = c.in_ok-waits.ensures.asked;
         why =
             subst (λ (x : SearchExtent). IfSome waits (λ w. why_not_in w ≡ why_not x (count v))) c.extent_by-extent.ensures
             c.in_ok-waits.ensures.why;
