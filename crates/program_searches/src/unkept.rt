@@ -10,7 +10,7 @@ use endless_waits::{EndlessWaits, Unanswered};
 use processor::Step;
 
 /// Why it is not known that nobody can wait forever.
-#[derive(Clone, Copy, Debug, PartialEq, Eq)]
+#[derive(Clone, Copy, Debug)]
 pub enum UnkeptWaits {
     /// This stream can: the first one that is shown.
     Starved(Step),
