@@ -142,6 +142,9 @@ SEARCHES = {
     # (the search has 40 states)
     "not decided: a claim, by a bound": ((*BOUNDED, "--states", "39"), b"finished\nsome word 8 is 3\n"),
     "not decided: never busy, by a bound": ((*BOUNDED, "--states", "39"), b"finished\nnever busy\n"),
+    "a stream that can wait forever": (("reading_room.asm",), b"never starved\n"),
+    "nobody waits forever": (("lock.asm",), b"finished\nnever starved\n"),
+    "not decided: never starved, by a bound": ((*BOUNDED, "--states", "39"), b"finished\nnever starved\n"),
     "shown, with a bound": ((*BOUNDED, "--states", "39"), b"finished\nsome word 8 is 1\n"),
 }
 # the lines that a search that came to a bound does not decide, where it has not shown them
@@ -225,6 +228,7 @@ def line_of_the_whole(told):
     lines = [value["broken"] for value in told if value["object"] == "rule"]
     lines += [value["claim"] for value in told if value["object"] == "unshown"]
     lines += [value["claim"] for value in told if value.get("end") == "broken" and value["claim"]["text"] == "never busy"]
+    lines += [value["claim"] for value in told if value["object"] == "broken"]
     return lines[0] if lines else None
 
 

@@ -1,7 +1,7 @@
 #!/usr/bin/env python3
 """Random programs with loops: who can wait forever by `mta_lab explore --waiting`, beside a plain search of rounds by a
 machine of the tests' own (lassos.py). Each stream that is shown has to be one that the search finds, and each that the search
-finds has to be shown. Each schedule and round that is shown is replayed: the round has to come back, to be fair, and to
+finds has to be shown. With the line `never starved` the same streams are shown, and a program is right only if there is none. Each schedule and round that is shown is replayed: the round has to come back, to be fair, and to
 leave the stream waiting, and no schedule to its world may be shorter. Each is run by `mta_sim` too, the round once and twice. And
 `view --round` has to mark as a round just those last steps of a kept schedule that are one by this machine. A
 difference is printed with its seed and its program. Needs Python 3.
@@ -82,12 +82,12 @@ class Case:
         self.lassos = Lassos(self.space)
         self.wanted = {name_of(stream) for stream in self.lassos.starving()}
 
-    def status(self):
-        """The worst status of all ends and endless loops: who waits forever does so in one."""
+    def status(self, waiting=search.ENDLESS):
+        """The worst status of all ends and endless loops, and of who waits forever, which is that of an endless loop."""
         found = [OF_ENDS[kind] for kind in self.space.ends().values()]
         loops = [next(iter(found)) for found in self.space.spinning()]
         found += [search.UNEXPECTED if search.stopped(world) else search.ENDLESS for world in loops]
-        return search.worst(found + [search.ENDLESS] * bool(self.wanted))
+        return search.worst(found + [waiting] * bool(self.wanted))
 
     def differences(self, asked, folder):
         """What mta_lab says that is not so."""
@@ -111,6 +111,27 @@ class Case:
             yield from self.faults(name, it)
             yield from self.run_twice(asked, folder, path, name)
             yield from self.not_as_marked(asked, folder, path, it)
+        yield from self.not_as_required(asked, folder, path)
+
+    def not_as_required(self, asked, folder, path):
+        """What is said of the program that is not so, where it is required that nobody can wait forever."""
+        line = os.path.join(folder, "s.expect")
+        with open(line, "wb") as file:
+            file.write(b"never starved\n")
+        ended = call(asked.program, "explore", "--json", "--expect", line, path)
+        objects = [json.loads(it) for it in ended.stdout.splitlines()]
+        broken = [it["claim"] for it in objects if it["object"] == "broken"]
+        if broken != [{"line": 1, "text": "never starved"}] * bool(self.wanted):
+            yield f"never starved: {broken}, and {sorted(self.wanted)} can wait forever"
+        if {it["stream"] for it in objects if it["object"] == "starving"} != self.wanted:
+            yield f"never starved: others are shown than {sorted(self.wanted)}"
+        status = self.status(search.UNEXPECTED)
+        if ended.returncode != status:
+            yield f"never starved: status {ended.returncode}, and not {status}"
+        graded = call(asked.program, "grade", "--explore", "--json", "--expect", line, path)
+        verdict = json.loads(graded.stdout)["verdict"]
+        if (verdict == "right") != (status == search.DONE) or graded.returncode != status:
+            yield f"never starved: {verdict}, status {graded.returncode}, and not {status}"
 
     def faults(self, name, it):
         """What is not so of a stream that is shown."""

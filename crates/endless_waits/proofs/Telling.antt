@@ -1,55 +1,28 @@
--- What is known of a search of which it is asked who can wait forever.
-use Rattle.std.specs.Prelude.{IsTrue, ◌==◌, nat_lt, not, ◌&&◌, if◌then◌else◌, Some, None}
-use Rattle.std.proofs.Common.{◌≡◌, Bool, true, false, List, length, refl, sym, ◌∙◌, subst}
+-- What is known of a space of whose search it is asked who can wait forever.
+use Rattle.std.specs.Prelude.{IsTrue, ◌==◌, ◌&&◌, None}
+use Rattle.std.proofs.Common.{◌≡◌, ℕ, Bool, true, false, List, [], ◌∷◌, length, refl, subst, arith}
+use Rattle.std.specs.Prelude.{Contains}
 use Rattle.std.proofs.lemmas.Bool.{eqb-true}
 use Rattle.std.proofs.lemmas.List.{nil_from_length}
 use Rattle.image_file.specs.ImageValue.{ImageValue}
+use Rattle.processor.specs.World.{run}
 use Rattle.processor.specs.declared.steps.Step.{Step}
-use Rattle.space_ends.specs.ScheduleSpace.Spaces.{count}
-use Rattle.starving_streams.specs.Starving.{NobodyWaits}
-use Rattle.starving_streams.specs.Reports.{HasAllStates, TellsWhoStarves}
-use Rattle.starving_streams.specs.declared.reports.StarvingStreams.{StarvingStreams}
-use Rattle.program_searches.specs.Searches.{takes_all, IsExplored}
-use Rattle.program_searches.specs.declared.explored.Explored.{Explored}
-use Rattle.program_searches.specs.declared.searches.ProgramSearch.{ProgramSearch}
-use Rattle.endless_waits.specs.Waits.{most_states, why_not, is_nobody, TellsWhoWaits}
-use Rattle.endless_waits.specs.declared.unanswered.Unanswered.TheVariants as reason
+use Rattle.starving_streams.specs.ScheduleSpace.Spaces.{SpaceValue}
+use Rattle.starving_streams.specs.Starving.{Starves, CanWaitForEver, NobodyWaits}
+use Rattle.starving_streams.specs.Reports.{HasAllStates, IsShown}
+use Rattle.starving_streams.specs.declared.reports.Starving.{Starving}
+use Rattle.endless_waits.specs.Waits.{HasExtent, why_not, is_nobody, shown_in, TellsWhoWaits}
+use Rattle.endless_waits.specs.declared.extents.SearchExtent.{SearchExtent}
+use Rattle.endless_waits.specs.declared.extents.SearchExtent.TheVariants as extent
 use Rattle.endless_waits.specs.declared.waits.EndlessWaits.{EndlessWaits}
 use Rattle.endless_waits.specs.declared.waits.EndlessWaits.TheVariants as waits
 
--- a search of a program, of which it is asked
-module _ (image : ImageValue) (asked : ProgramSearch) (e : Explored) (x : IsExplored image asked e) where
-  all_states : e.is_of_all_worlds ≡ true → e.is_complete ≡ true → HasAllStates e.space
-  all_states all done =
-      let takes : IsTrue (takes_all asked) = sym x.all_worlds ∙ all in
-      let worlds = x.searched.worlds (x.bound.1 done) takes in
-      record {
-        complete = worlds.complete;
-        edges = worlds.edges;
-        distinct = worlds.distinct;
-        shortest = x.searched.shortest takes;
-      }
-
-  by_flags : (all done : Bool) → e.is_of_all_worlds ≡ all → e.is_complete ≡ done
-      → (if not all then Some reason.NotAllStates
-      else (if not done then Some reason.NotComplete
-      else (if nat_lt most_states (count e.space) then Some reason.TooManyStates else None))) ≡ None
-      → HasAllStates e.space
-  by_flags true true all done none = all_states all done
-  by_flags true false all done none = cc
-  by_flags false done all is none = cc
-
-  -- it has all states
-  has_all_states : why_not e ≡ None → HasAllStates e.space
-  has_all_states none = by_flags e.is_of_all_worlds e.is_complete refl refl none
-
-  -- and what is said of its space is so of the program
-  pub tells_of_program : (r : StarvingStreams) → why_not e ≡ None
-      → (HasAllStates e.space → TellsWhoStarves e.space.image e.space.begin r)
-      → TellsWhoStarves image asked.begin.now r
-  tells_of_program r none tells =
-      subst (λ (begin : List Step). TellsWhoStarves image begin r) x.begin
-      (subst (λ (i : ImageValue). TellsWhoStarves i e.space.begin r) x.image (tells (has_all_states none)))
+-- if it is asked, the space has all states
+pub has_all_states : (x : SearchExtent) (states : ℕ) (v : SpaceValue) → why_not x states ≡ None → HasExtent x v
+    → HasAllStates v
+has_all_states extent.AllStates states v none has = has
+has_all_states extent.Bounded states v none has = cc
+has_all_states extent.Reduced states v none has = cc
 
 both : (a b : Bool) → (a && b) ≡ true → (a ≡ true) × (b ≡ true)
 both true b is = (refl, is)
@@ -63,3 +36,27 @@ nobody_waits image begin (waits.Answered r) tells is =
     tells.nobody (nil_from_length r.starving.items (eqb-true _ _ none.0))
     (nil_from_length r.undecided.items (eqb-true _ _ none.1))
 nobody_waits image begin (waits.Unanswered u) tells is = cc
+
+head_in : (x : Starving) (xs : List Starving) → Contains (x ∷ xs) x
+head_in x xs = (0, omega arith, refl)
+
+-- a stream that is shown can wait forever
+can_wait : (image : ImageValue) (begin : List Step) (x : Starving) → IsShown image begin x
+    → CanWaitForEver image begin x.stream
+can_wait image begin x is = (
+  is.begins.0,
+  x.round.items,
+  subst (λ (ts : List Step). Starves image (run image ts) x.stream x.round.items) is.begins.1 is.starves,
+)
+
+none_shown : (image : ImageValue) (begin : List Step) (xs : List Starving)
+    → ((x : Starving) → Contains xs x → IsShown image begin x) → NobodyWaits image begin → xs ≡ []
+none_shown image begin [] shown nobody = refl
+none_shown image begin (x ∷ xs) shown nobody =
+    absurd (nobody x.stream (can_wait image begin x (shown x (head_in x xs))))
+
+-- if nobody can, none is shown
+pub shows_none : (image : ImageValue) (begin : List Step) (w : EndlessWaits) → TellsWhoWaits image begin w
+    → NobodyWaits image begin → shown_in w ≡ []
+shows_none image begin (waits.Answered r) tells nobody = none_shown image begin r.starving.items tells.shown nobody
+shows_none image begin (waits.Unanswered u) tells nobody = refl

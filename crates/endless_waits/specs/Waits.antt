@@ -1,27 +1,39 @@
 -- Of which searches it is said who can wait forever, and what is said.
-use Rattle.std.specs.Prelude.{ℕ, ◌==◌, nat_lt, Bool, false, not, ◌&&◌, if◌then◌else◌, List, length, codes, ⊤, Option, Some, None}
+use Rattle.std.specs.Prelude.{◌≡◌, ℕ, ◌==◌, nat_lt, Bool, false, ◌&&◌, if◌then◌else◌, List, [], length, codes, ⊤, IsTrue, Option, Some, None}
 use Rattle.image_file.specs.ImageValue.{ImageValue}
 use Rattle.processor.specs.declared.steps.Step.{Step}
 use Rattle.end_kinds.specs.declared.statuses.Status.{Status}
 use Rattle.end_kinds.specs.declared.statuses.Status.TheVariants as status
-use Rattle.space_ends.specs.ScheduleSpace.Spaces.{count}
-use Rattle.starving_streams.specs.Reports.{TellsWhoStarves}
-use Rattle.program_searches.specs.declared.explored.Explored.{Explored}
+use Rattle.starving_streams.specs.ScheduleSpace.Spaces.{SpaceValue}
+use Rattle.starving_streams.specs.Starving.{NobodyWaits}
+use Rattle.starving_streams.specs.Reports.{HasAllStates, TellsWhoStarves}
+use Rattle.starving_streams.specs.declared.reports.Starving.{Starving}
+use Rattle.endless_waits.specs.declared.extents.SearchExtent.{SearchExtent}
+use Rattle.endless_waits.specs.declared.extents.SearchExtent.TheVariants as extent
 use Rattle.endless_waits.specs.declared.unanswered.Unanswered.{Unanswered}
 use Rattle.endless_waits.specs.declared.unanswered.Unanswered.TheVariants as reason
 use Rattle.endless_waits.specs.declared.waits.EndlessWaits.{EndlessWaits}
 use Rattle.endless_waits.specs.declared.waits.EndlessWaits.TheVariants as waits
 
+-- what a space has whose search went so far: all states, or nothing is known of it
+abbrev pub HasExtent : SearchExtent → SpaceValue → Type 0
+HasExtent extent.AllStates v = HasAllStates v
+HasExtent extent.Bounded v = ⊤
+HasExtent extent.Reduced v = ⊤
+
 -- the most states
 abbrev pub most_states : ℕ
 most_states = 100000
 
--- why it is not asked of the states that a search found: the first reason of these three that is so
-abbrev pub why_not : Explored → Option Unanswered
-why_not e =
-    if not e.is_of_all_worlds then Some reason.NotAllStates
-    else (if not e.is_complete then Some reason.NotComplete
-    else (if nat_lt most_states (count e.space) then Some reason.TooManyStates else None))
+-- that they are too many, where that is so
+abbrev pub too_many : ℕ → Option Unanswered
+too_many states = if nat_lt most_states states then Some reason.TooManyStates else None
+
+-- why it is not asked of so many states, which a search found that went so far
+abbrev pub why_not : SearchExtent → ℕ → Option Unanswered
+why_not extent.Reduced states = Some reason.NotAllStates
+why_not extent.Bounded states = Some reason.NotComplete
+why_not extent.AllStates states = too_many states
 
 -- why it was not
 abbrev pub why_not_in : EndlessWaits → Option Unanswered
@@ -45,6 +57,11 @@ abbrev pub is_nobody : EndlessWaits → Bool
 is_nobody (waits.Answered r) = length r.starving.items == 0 && length r.undecided.items == 0
 is_nobody (waits.Unanswered u) = false
 
+-- the streams that are shown
+abbrev pub shown_in : EndlessWaits → List Starving
+shown_in (waits.Answered r) = r.starving.items
+shown_in (waits.Unanswered u) = []
+
 -- done if nobody waits, else as of an endless loop
 abbrev pub status_of_waits : EndlessWaits → Status
 status_of_waits w = if is_nobody w then status.Done else status.OutOfSteps
@@ -53,3 +70,12 @@ status_of_waits w = if is_nobody w then status.Done else status.OutOfSteps
 abbrev pub TellsWhoWaits : ImageValue → List Step → EndlessWaits → Type 0
 TellsWhoWaits image begin (waits.Answered r) = TellsWhoStarves image begin r
 TellsWhoWaits image begin (waits.Unanswered u) = ⊤
+
+-- What is said of who can wait forever is so of a program whose schedules begin so.
+pub record IsSoOfWaits (image : ImageValue) (begin : List Step) (w : EndlessWaits) : Type 0 where
+  -- Each stream that is shown can wait forever, and each that can is shown or left undecided.
+  pub tells : TellsWhoWaits image begin w
+  -- If it says that nobody can, nobody can.
+  pub nobody : IsTrue (is_nobody w) → NobodyWaits image begin
+  -- If nobody can, it shows no stream.
+  pub only : NobodyWaits image begin → shown_in w ≡ []

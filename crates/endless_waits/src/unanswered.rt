@@ -1,9 +1,9 @@
 //! Of which searches it is not asked who can wait forever.
 
 ghost use Rattle.std.specs.Prelude.{◌≡◌};
-ghost use Rattle.endless_waits.specs.Waits.{why_not, reason_words, reason_json_name};
+ghost use Rattle.endless_waits.specs.Waits.{why_not, too_many, reason_words, reason_json_name};
 
-use program_searches::Explored;
+use crate::extents::SearchExtent;
 
 /// The most states of a search of which it is asked who can wait forever.
 pub const MOST_STATES: usize = 100_000;
@@ -43,15 +43,22 @@ impl Unanswered {
     }
 }
 
-/// Why it is not asked of the states that a search found; None where it is.
-pub(crate) fn why_not(found: &Explored<'_>) -> Option<Unanswered>
-    ensures { result ≡ why_not found.now }
+/// Why it is not asked of so many states, which a search found that went so far; None where it is.
+pub(crate) fn why_not(extent: SearchExtent, states: usize) -> Option<Unanswered>
+    ensures { result ≡ why_not extent states }
 {
-    if !found.is_of_all_worlds {
-        Some(Unanswered::NotAllStates)
-    } else if !found.is_complete {
-        Some(Unanswered::NotComplete)
-    } else if found.worlds() > MOST_STATES {
+    match extent {
+        SearchExtent::Reduced => Some(Unanswered::NotAllStates),
+        SearchExtent::Bounded => Some(Unanswered::NotComplete),
+        SearchExtent::AllStates => too_many(states),
+    }
+}
+
+/// That they are too many, where that is so.
+fn too_many(states: usize) -> Option<Unanswered>
+    ensures { result ≡ too_many states }
+{
+    if states > MOST_STATES {
         Some(Unanswered::TooManyStates)
     } else {
         None

@@ -1,19 +1,17 @@
 //! Who can wait forever, among the states that a search found.
 
-ghost use Rattle.std.specs.Prelude.{◌≡◌, IsTrue, IfOk};
-ghost use Rattle.image_file.specs.ImageValue.{ImageValue};
-ghost use Rattle.program_searches.specs.Searches.{IsExplored};
-ghost use Rattle.program_searches.specs.declared.searches.ProgramSearch.{ProgramSearch};
+ghost use Rattle.std.specs.Prelude.{◌≡◌, IsTrue, IfOk, []};
+ghost use Rattle.starving_streams.specs.ScheduleSpace.Spaces.{count};
 ghost use Rattle.starving_streams.specs.Starving.{NobodyWaits};
 ghost use Rattle.starving_streams.specs.Reports.{HasAllStates, TellsWhoStarves};
-ghost use Rattle.endless_waits.specs.Waits.{why_not, why_not_in, is_nobody, status_of_waits, TellsWhoWaits};
+ghost use Rattle.endless_waits.specs.Waits.{HasExtent, why_not, why_not_in, is_nobody, shown_in, status_of_waits, TellsWhoWaits};
 
+use crate::extents::SearchExtent;
 use crate::unanswered::{Unanswered, why_not};
 use end_kinds::Status;
 use image_machines::by_room;
 use machine::LoadFault;
-use program_searches::Explored;
-use space_ends::space::Space;
+use starving_streams::space::Space;
 use starving_streams::{StarvingStreams, starving_streams};
 use std::alloc::{AllocError, Global};
 
@@ -51,21 +49,27 @@ impl EndlessWaits {
     }
 }
 
-/// Who can wait forever in a program of which this search was made: it is asked exactly if the search looked for all states,
-/// has all, and they are no more than `MOST_STATES`. Then each stream that can is shown, with a schedule and a round
-/// in which it starves, or is named as undecided. So if it says that nobody can, no round that is fair by words leaves a
-/// stream waiting.
-pub fn endless_waits(alloc: Global, found: &Explored<'_>) -> Result<EndlessWaits, AllocError>
-    ensures asked { IfOk result (λ w. why_not_in w ≡ why_not found.now) }
-    ensures tells { IfOk result (λ w. (image : ImageValue) (asked : ProgramSearch) → IsExplored image asked found.now
-        → TellsWhoWaits image asked.begin.now w) }
-    ensures nobody { IfOk result (λ w. (image : ImageValue) (asked : ProgramSearch) → IsExplored image asked found.now
-        → IsTrue (is_nobody w) → NobodyWaits image asked.begin.now) }
+/// Who can wait forever, by the states of a space, whose search went so far: it is asked exactly if the search has all
+/// states, and they are no more than `MOST_STATES`. Then each stream that can is shown, with a schedule and a round in which
+/// it starves, or is named as undecided. So if it says that nobody can, no round that is fair by words leaves a stream
+/// waiting; and if nobody can, it shows no stream.
+pub fn endless_waits(
+    alloc: Global,
+    space: &Space<'_>,
+    extent: SearchExtent,
+) -> Result<EndlessWaits, AllocError>
+    ensures asked { IfOk result (λ w. why_not_in w ≡ why_not extent (count space.now)) }
+    ensures tells { IfOk result (λ w. HasExtent extent space.now
+        → TellsWhoWaits space.now.image space.now.begin w) }
+    ensures nobody { IfOk result (λ w. HasExtent extent space.now → IsTrue (is_nobody w)
+        → NobodyWaits space.now.image space.now.begin) }
+    ensures only { IfOk result (λ w. HasExtent extent space.now → NobodyWaits space.now.image space.now.begin
+        → shown_in w ≡ []) }
 {
-    if let Some(reason) = why_not(found) {
+    if let Some(reason) = why_not(extent, space.len()) {
         return Ok(EndlessWaits::Unanswered(reason));
     }
-    Ok(EndlessWaits::Answered(starving_in(alloc, &found.space)?))
+    Ok(EndlessWaits::Answered(starving_in(alloc, space)?))
 }
 
 /// The streams that can wait forever, by the worlds of a space.

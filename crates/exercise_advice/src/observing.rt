@@ -41,6 +41,8 @@ impl<'a> ShownMistake<'a> {
             | Reason::NoSchedule { .. }
             | Reason::NoRun { .. }
             | Reason::NoRunCan
+            | Reason::Starved(_)
+            | Reason::OpenWaits
             | Reason::Rule(_)
             | Reason::Work(_)
             | Reason::Absent { .. }
@@ -105,7 +107,7 @@ fn push_missed(seen: &mut Vec<Observation>, shown: ShownMistake<'_>) -> Result<(
             Some(expectation) => push_words_of(seen, shown.image, *expectation),
             None => Ok(()),
         },
-        Some(MissedLine::Claim(_) | MissedLine::Busy) => {
+        Some(MissedLine::Claim(_) | MissedLine::Busy | MissedLine::Starved) => {
             Ok(seen.push(Observation::of(ObservationKind::Claim))?)
         }
         Some(MissedLine::Rule(_)) => Ok(seen.push(Observation::of(ObservationKind::Rule))?),

@@ -8,7 +8,7 @@ use Rattle.program_rules.specs.declared.program_rule.ProgramRule.{ProgramRule}
 use Rattle.work_rules.specs.declared.work_rule.WorkRule.{WorkRule}
 use Rattle.expectation_files.specs.Words.{words_on, in_one_line}
 use Rattle.expectation_files.specs.ClaimLines.{ClaimValue}
-use Rattle.expectation_files.specs.Lines.{End, Claimed, Rules, Work, NeverBusy}
+use Rattle.expectation_files.specs.Lines.{End, Claimed, Rules, Work, NeverBusy, NeverStarved}
 use Rattle.expectation_files.specs.Files.{RequirementsValue, FileSaid, nothing_said, said_on, joined, in_front, texts_of_rules}
 
 or_none : (o : Option ℕ) → option_or o None ≡ o
@@ -35,6 +35,7 @@ joined_nothing v =
       append-nil v.work_numbers,
       append-nil v.work_texts,
       or_none v.never_busy,
+      or_none v.never_starved,
     ) refl
 
 pub joined_end : (v : RequirementsValue) (e : Expectation) (k : ℕ) (l : List ℕ) → joined v (said_on k l (End e))
@@ -52,6 +53,7 @@ pub joined_end : (v : RequirementsValue) (e : Expectation) (k : ℕ) (l : List �
       work_numbers = v.work_numbers;
       work_texts = v.work_texts;
       never_busy = v.never_busy;
+      never_starved = v.never_starved;
     }
 joined_end v e k l =
     rw (
@@ -65,6 +67,7 @@ joined_end v e k l =
       append-nil v.work_numbers,
       append-nil v.work_texts,
       or_none v.never_busy,
+      or_none v.never_starved,
     ) refl
 
 pub joined_claim : (v : RequirementsValue) (c : ClaimValue) (k : ℕ) (l : List ℕ) → joined v (said_on k l (Claimed c))
@@ -82,6 +85,7 @@ pub joined_claim : (v : RequirementsValue) (c : ClaimValue) (k : ℕ) (l : List 
       work_numbers = v.work_numbers;
       work_texts = v.work_texts;
       never_busy = v.never_busy;
+      never_starved = v.never_starved;
     }
 joined_claim v c k l =
     rw (
@@ -95,6 +99,7 @@ joined_claim v c k l =
       append-nil v.work_numbers,
       append-nil v.work_texts,
       or_none v.never_busy,
+      or_none v.never_starved,
     ) refl
 
 pub joined_rules : (v : RequirementsValue) (rs : List ProgramRule) (k : ℕ) (l : List ℕ) → joined v (said_on k l (Rules rs))
@@ -112,6 +117,7 @@ pub joined_rules : (v : RequirementsValue) (rs : List ProgramRule) (k : ℕ) (l 
       work_numbers = v.work_numbers;
       work_texts = v.work_texts;
       never_busy = v.never_busy;
+      never_starved = v.never_starved;
     }
 joined_rules v rs k l =
     rw (
@@ -125,6 +131,7 @@ joined_rules v rs k l =
       append-nil v.work_numbers,
       append-nil v.work_texts,
       or_none v.never_busy,
+      or_none v.never_starved,
     ) refl
 
 pub joined_work : (v : RequirementsValue) (rs : List WorkRule) (k : ℕ) (l : List ℕ) → joined v (said_on k l (Work rs))
@@ -142,6 +149,7 @@ pub joined_work : (v : RequirementsValue) (rs : List WorkRule) (k : ℕ) (l : Li
       work_numbers = v.work_numbers ++ replicate (length rs) k;
       work_texts = v.work_texts ++ texts_of_rules (words_on l) (length rs);
       never_busy = v.never_busy;
+      never_starved = v.never_starved;
     }
 joined_work v rs k l =
     rw (
@@ -155,6 +163,7 @@ joined_work v rs k l =
       append-nil v.rule_numbers,
       append-nil v.rule_texts,
       or_none v.never_busy,
+      or_none v.never_starved,
     ) refl
 
 pub joined_busy : (v : RequirementsValue) (k : ℕ) (l : List ℕ) → joined v (said_on k l NeverBusy)
@@ -172,6 +181,7 @@ pub joined_busy : (v : RequirementsValue) (k : ℕ) (l : List ℕ) → joined v 
       work_numbers = v.work_numbers;
       work_texts = v.work_texts;
       never_busy = option_or v.never_busy (Some k);
+      never_starved = v.never_starved;
     }
 joined_busy v k l =
     rw (
@@ -187,6 +197,41 @@ joined_busy v k l =
       append-nil v.work,
       append-nil v.work_numbers,
       append-nil v.work_texts,
+      or_none v.never_starved,
+    ) refl
+
+pub joined_starved : (v : RequirementsValue) (k : ℕ) (l : List ℕ) → joined v (said_on k l NeverStarved)
+    ≡ record {
+      ends = v.ends;
+      end_numbers = v.end_numbers;
+      end_texts = v.end_texts;
+      claims = v.claims;
+      claim_numbers = v.claim_numbers;
+      claim_texts = v.claim_texts;
+      rules = v.rules;
+      rule_numbers = v.rule_numbers;
+      rule_texts = v.rule_texts;
+      work = v.work;
+      work_numbers = v.work_numbers;
+      work_texts = v.work_texts;
+      never_busy = v.never_busy;
+      never_starved = option_or v.never_starved (Some k);
+    }
+joined_starved v k l =
+    rw (
+      append-nil v.ends,
+      append-nil v.end_numbers,
+      append-nil v.end_texts,
+      append-nil v.claims,
+      append-nil v.claim_numbers,
+      append-nil v.claim_texts,
+      append-nil v.rules,
+      append-nil v.rule_numbers,
+      append-nil v.rule_texts,
+      append-nil v.work,
+      append-nil v.work_numbers,
+      append-nil v.work_texts,
+      or_none v.never_busy,
     ) refl
 
 joined_assoc : (v w u : RequirementsValue) → joined (joined v w) u ≡ joined v (joined w u)
@@ -205,6 +250,7 @@ joined_assoc v w u =
       append_assoc v.work_numbers w.work_numbers u.work_numbers,
       append_assoc v.work_texts w.work_texts u.work_texts,
       or_assoc v.never_busy w.never_busy u.never_busy,
+      or_assoc v.never_starved w.never_starved u.never_starved,
     ) refl
 
 pub in_front-in_front : (v w : RequirementsValue) (said : FileSaid)

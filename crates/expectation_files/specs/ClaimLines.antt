@@ -180,7 +180,8 @@ form_claimed names i (w ∷ ws) =
     if bytes_eq w (codes "word") then word_claimed names i ws
     else (if bytes_eq w (codes "at") then streams_claimed names i ws
     else (if bytes_eq w (codes "busy") then at 1 fault.Busy
-    else no_claim 1))
+    else (if bytes_eq w (codes "starved") then at 1 fault.Starved
+    else no_claim 1)))
 
 abbrev pub with_scope : Scope → FormSaid → Result ClaimValue LineFault
 with_scope scope (Err f) = Err f

@@ -13,13 +13,13 @@ use Rattle.work_rules.specs.declared.work_rule.WorkRule.{WorkRule}
 use Rattle.expectation_files.specs.Words.{words_on, in_one_line}
 use Rattle.expectation_files.specs.Addresses.{Names}
 use Rattle.expectation_files.specs.ClaimLines.{ClaimValue}
-use Rattle.expectation_files.specs.Lines.{Meaning, Nothing, End, Claimed, Rules, Work, NeverBusy, Marked, MeaningSaid}
+use Rattle.expectation_files.specs.Lines.{Meaning, Nothing, End, Claimed, Rules, Work, NeverBusy, NeverStarved, Marked, MeaningSaid}
 use Rattle.expectation_files.specs.Lines.{said_after, has_after}
 use Rattle.expectation_files.specs.declared.faults.FileFault.{FileFault}
 use Rattle.expectation_files.specs.declared.faults.FileFault.TheVariants as file
 
--- What lines say, in their order, each kind with the numbers of its lines and with their words; of the lines `never busy` the
--- first one's number.
+-- What lines say, in their order, each kind with the numbers of its lines and with their words; of the lines `never busy`, and
+-- of the lines `never starved`, the first one's number.
 pub record RequirementsValue : Type 0 where
   pub ends : List Expectation
   pub end_numbers : List ℕ
@@ -34,6 +34,7 @@ pub record RequirementsValue : Type 0 where
   pub work_numbers : List ℕ
   pub work_texts : List (List ℕ)
   pub never_busy : Option ℕ
+  pub never_starved : Option ℕ
 
 abbrev pub nothing_said : RequirementsValue
 nothing_said = record {
@@ -50,6 +51,7 @@ nothing_said = record {
   work_numbers = [];
   work_texts = [];
   never_busy = None;
+  never_starved = None;
 }
 
 -- whether a line that begins with this word names operations
@@ -83,6 +85,7 @@ said_on k l (End e) = record {
   work_numbers = [];
   work_texts = [];
   never_busy = None;
+  never_starved = None;
 }
 said_on k l (Claimed c) = record {
   ends = [];
@@ -98,6 +101,7 @@ said_on k l (Claimed c) = record {
   work_numbers = [];
   work_texts = [];
   never_busy = None;
+  never_starved = None;
 }
 said_on k l (Rules rs) = record {
   ends = [];
@@ -113,6 +117,7 @@ said_on k l (Rules rs) = record {
   work_numbers = [];
   work_texts = [];
   never_busy = None;
+  never_starved = None;
 }
 said_on k l (Work rs) = record {
   ends = [];
@@ -128,6 +133,7 @@ said_on k l (Work rs) = record {
   work_numbers = replicate (length rs) k;
   work_texts = texts_of_rules (words_on l) (length rs);
   never_busy = None;
+  never_starved = None;
 }
 said_on k l NeverBusy = record {
   ends = [];
@@ -143,6 +149,23 @@ said_on k l NeverBusy = record {
   work_numbers = [];
   work_texts = [];
   never_busy = Some k;
+  never_starved = None;
+}
+said_on k l NeverStarved = record {
+  ends = [];
+  end_numbers = [];
+  end_texts = [];
+  claims = [];
+  claim_numbers = [];
+  claim_texts = [];
+  rules = [];
+  rule_numbers = [];
+  rule_texts = [];
+  work = [];
+  work_numbers = [];
+  work_texts = [];
+  never_busy = None;
+  never_starved = Some k;
 }
 said_on k l (Marked m) = nothing_said
 
@@ -162,6 +185,7 @@ joined v w = record {
   work_numbers = v.work_numbers ++ w.work_numbers;
   work_texts = v.work_texts ++ w.work_texts;
   never_busy = option_or v.never_busy w.never_busy;
+  never_starved = option_or v.never_starved w.never_starved;
 }
 
 abbrev pub FileSaid : Type 0
@@ -187,7 +211,8 @@ lines_said names i has k (l ∷ ls) =
 abbrev pub is_nothing : RequirementsValue → Bool
 is_nothing v =
     length v.ends == 0
-    && (length v.claims == 0 && (length v.rules == 0 && (length v.work == 0 && not (is_some v.never_busy))))
+    && (length v.claims == 0
+    && (length v.rules == 0 && (length v.work == 0 && (not (is_some v.never_busy) && not (is_some v.never_starved)))))
 
 -- a file has to say something
 abbrev pub unless_nothing : FileSaid → FileSaid

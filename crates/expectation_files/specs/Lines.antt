@@ -21,7 +21,7 @@ use Rattle.expectation_files.specs.declared.faults.LineFaultKind.TheVariants as 
 use Rattle.expectation_files.specs.declared.rule_lines.OperationVerb.TheVariants.{Forbid, Require}
 
 -- what a line says: nothing; what the end of a run has to be; a claim about worlds; rules for the program; who does the
--- work in a run; that no stream ever loops alone; how the case counts to which the file belongs
+-- work in a run; that no stream ever loops alone; that none can wait for ever; how the case counts to which the file belongs
 pub data Meaning : Type 0 where
   Nothing : Meaning
   End : Expectation → Meaning
@@ -29,6 +29,7 @@ pub data Meaning : Type 0 where
   Rules : List ProgramRule → Meaning
   Work : List WorkRule → Meaning
   NeverBusy : Meaning
+  NeverStarved : Meaning
   Marked : CaseMark → Meaning
 
 abbrev pub MeaningSaid : Type 0
@@ -59,9 +60,17 @@ abbrev pub is_busy_alone : List (List ℕ) → Bool
 is_busy_alone (w ∷ []) = bytes_eq w (codes "busy")
 is_busy_alone _ = false
 
--- what stands behind `never`: `busy` alone, or a claim
+-- whether words are `starved` alone
+abbrev pub is_starved_alone : List (List ℕ) → Bool
+is_starved_alone (w ∷ []) = bytes_eq w (codes "starved")
+is_starved_alone _ = false
+
+-- what stands behind `never`: `busy` alone, `starved` alone, or a claim
 abbrev pub never_said : Names → ImageValue → List (List ℕ) → MeaningSaid
-never_said names i ws = if is_busy_alone ws then Ok NeverBusy else claim_of (claim_said names i Never ws)
+never_said names i ws =
+    if is_busy_alone ws then Ok NeverBusy
+    else (if is_starved_alone ws then Ok NeverStarved
+    else claim_of (claim_said names i Never ws))
 
 -- Lines by their first words.
 
@@ -119,6 +128,7 @@ is_points (Claimed c) = false
 is_points (Rules rs) = false
 is_points (Work rs) = false
 is_points NeverBusy = false
+is_points NeverStarved = false
 
 -- what a line says after others that say how many points there are or not: a second such line has a fault
 abbrev pub once : Bool → MeaningSaid → MeaningSaid

@@ -24,6 +24,7 @@ is_of_program fault.Count = false
 is_of_program fault.Operation = false
 is_of_program fault.Beyond = false
 is_of_program fault.Busy = false
+is_of_program fault.Starved = false
 is_of_program fault.Twice = false
 is_of_program fault.Worth = false
 is_of_program fault.Again = false

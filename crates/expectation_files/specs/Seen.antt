@@ -7,7 +7,7 @@ use Rattle.claims.specs.declared.claim.ClaimForm.{ClaimForm}
 use Rattle.claims.specs.declared.claim.ClaimForm.TheVariants as form
 use Rattle.expectation_files.specs.Addresses.{Names}
 use Rattle.expectation_files.specs.ClaimLines.{ClaimValue, ClaimFormValue, OfWord, OfStreams}
-use Rattle.expectation_files.specs.Lines.{Meaning, Nothing, End, Claimed, Rules, Work, NeverBusy, Marked}
+use Rattle.expectation_files.specs.Lines.{Meaning, Nothing, End, Claimed, Rules, Work, NeverBusy, NeverStarved, Marked}
 use Rattle.expectation_files.specs.Files.{RequirementsValue}
 use Rattle.expectation_files.specs.declared.lines.LineMeaning.{LineMeaning}
 use Rattle.expectation_files.specs.declared.lines.LineMeaning.TheVariants as line
@@ -32,6 +32,7 @@ meaning_seen (line.Claim c) = Claimed (claim_seen c)
 meaning_seen (line.Rules rs) = Rules rs.items
 meaning_seen (line.Work rs) = Work rs.items
 meaning_seen line.NeverBusy = NeverBusy
+meaning_seen line.NeverStarved = NeverStarved
 meaning_seen (line.Mark m) = Marked m
 
 abbrev pub numbers_of : List WrittenLine → List ℕ
@@ -56,4 +57,5 @@ requirements_seen r = record {
   work_numbers = numbers_of r.work_lines.items;
   work_texts = texts_of r.work_lines.items;
   never_busy = r.never_busy;
+  never_starved = r.never_starved;
 }

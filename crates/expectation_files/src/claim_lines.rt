@@ -60,6 +60,9 @@ fn read_form(
     if name == b"busy".as_slice() {
         return Err(Unread::Fault(LineFault::at(1, LineFaultKind::Busy)));
     }
+    if name == b"starved".as_slice() {
+        return Err(Unread::Fault(LineFault::at(1, LineFaultKind::Starved)));
+    }
     Err(Unread::Fault(LineFault::at(1, CLAIM)))
 }
 

@@ -73,6 +73,8 @@ pub enum LineFaultKind {
     Beyond,
     /// `busy` stands after `never` alone, and nothing after it.
     Busy,
+    /// So does `starved`.
+    Starved,
     /// The claim has named this stream before.
     Twice,
     /// The program has no word at this address.
@@ -113,6 +115,7 @@ impl LineFaultKind {
             | LineFaultKind::Operation
             | LineFaultKind::Beyond
             | LineFaultKind::Busy
+            | LineFaultKind::Starved
             | LineFaultKind::Twice
             | LineFaultKind::Worth
             | LineFaultKind::Again => false,

@@ -27,7 +27,7 @@ pub use all_faults::{file_faults, form_faults, widest_image};
 pub use faults::{FileFault, LineFault, LineFaultKind, LineForm};
 pub use marks::{CaseMarks, case_marks};
 pub use reading::read_requirements;
-pub use requirements::{NEVER_BUSY, Requirements, WrittenLine, are_rules_kept};
+pub use requirements::{NEVER_BUSY, NEVER_STARVED, Requirements, WrittenLine, are_rules_kept};
 pub use word_spans::{WordSpan, word_span};
 pub use words::word_of;
 pub use written_lines::{line_of, written_line};

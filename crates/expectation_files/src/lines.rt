@@ -4,7 +4,7 @@ ghost use Rattle.std.specs.Prelude.{◌≡◌, ◌||◌, ℕ, List, [], ◌∷�
 ghost use Rattle.expectation_files.specs.Words.{words_of};
 ghost use Rattle.expectation_files.specs.Lines.{line_said, meaning_named, claim_named, work_named, rules_named};
 ghost use Rattle.expectation_files.specs.Lines.{never_said, is_least};
-ghost use Rattle.expectation_files.specs.Lines.{is_busy_alone, is_points, said_after, Rules};
+ghost use Rattle.expectation_files.specs.Lines.{is_busy_alone, is_starved_alone, is_points, said_after, Rules};
 ghost use Rattle.expectation_files.specs.OperandsSeen.{AreOperands};
 ghost use Rattle.expectation_files.specs.Seen.{names_in, meaning_seen};
 ghost use Rattle.expectation_files.specs.declared.faults.Unread.TheVariants as unread;
@@ -41,6 +41,8 @@ pub(crate) enum LineMeaning {
     Work(Vec<WorkRule>),
     /// That no stream ever loops alone.
     NeverBusy,
+    /// That no stream can wait for ever.
+    NeverStarved,
     /// How the case counts to which the file belongs.
     Mark(CaseMark),
 }
@@ -65,7 +67,8 @@ impl LineMeaning {
             | LineMeaning::Claim(_)
             | LineMeaning::Rules(_)
             | LineMeaning::Work(_)
-            | LineMeaning::NeverBusy => false,
+            | LineMeaning::NeverBusy
+            | LineMeaning::NeverStarved => false,
         }
     }
 }
@@ -199,7 +202,7 @@ fn is_least(text: &[u8]) -> bool
     }
 }
 
-/// What follows `never`: `busy` alone, or a claim.
+/// What follows `never`: `busy` alone, `starved` alone, or a claim.
 fn read_never(
     alloc: Global,
     names: KnownNames<'_, '_, '_>,
@@ -211,8 +214,12 @@ fn read_never(
     ensures fault { IfErr result (λ u. (f : LineFault) → u ≡ unread.Fault f
         → never_said (names_in names.entry) image.now (words_of text.now) ≡ Err f) }
 {
-    if is_busy(&read_operands(text)) {
+    let operands = read_operands(text);
+    if is_busy(&operands) {
         return Ok(LineMeaning::NeverBusy);
+    }
+    if is_starved(&operands) {
+        return Ok(LineMeaning::NeverStarved);
     }
     Ok(LineMeaning::Claim(read_claim(alloc, names, image, Scope::Never, text)?))
 }
@@ -223,6 +230,16 @@ fn is_busy(operands: &Operands) -> bool
 {
     match *operands {
         Operands::One(word) => word == b"busy".as_slice(),
+        Operands::Zero | Operands::Two(..) | Operands::Three(..) | Operands::More(..) => false,
+    }
+}
+
+/// Whether operands are the word `starved` alone.
+fn is_starved(operands: &Operands) -> bool
+    ensures { (os : List (List ℕ)) → AreOperands operands.now os → result ≡ is_starved_alone os }
+{
+    match *operands {
+        Operands::One(word) => word == b"starved".as_slice(),
         Operands::Zero | Operands::Two(..) | Operands::Three(..) | Operands::More(..) => false,
     }
 }

@@ -19,6 +19,9 @@ use work_rules::WorkRule;
 /// The words of the line that says that no stream ever loops alone.
 pub const NEVER_BUSY: &str = "never busy";
 
+/// The words of the line that says that no stream can wait for ever.
+pub const NEVER_STARVED: &str = "never starved";
+
 /// A line of a file, as it was written.
 #[derive(Drop)]
 pub struct WrittenLine {
@@ -41,6 +44,7 @@ pub struct Requirements {
     work: Vec<WorkRule>,
     work_lines: Vec<WrittenLine>,
     never_busy: Option<usize>,
+    never_starved: Option<usize>,
 }
 
 impl Requirements {
@@ -58,6 +62,7 @@ impl Requirements {
             work: Vec::new(alloc),
             work_lines: Vec::new(alloc),
             never_busy: None,
+            never_starved: None,
         }
     }
 
@@ -70,6 +75,7 @@ impl Requirements {
             && self.rules.is_empty()
             && self.work.is_empty()
             && self.never_busy.is_none()
+            && self.never_starved.is_none()
     }
 
     /// What each end has to be, in the order of the lines.
@@ -142,8 +148,15 @@ impl Requirements {
         self.never_busy
     }
 
+    /// The first line, counted from 1, that says that no stream can wait for ever; None where none does.
+    pub fn never_starved(&self) -> Option<usize>
+        ensures { result ≡ self.now.never_starved }
+    {
+        self.never_starved
+    }
+
     /// Adds what the line of this number says.
-    #[tactic(auto, using(crate::proofs::Joined::joined_nothing, crate::proofs::Joined::joined_end, crate::proofs::Joined::joined_claim, crate::proofs::Joined::joined_busy))]
+    #[tactic(auto, using(crate::proofs::Joined::joined_nothing, crate::proofs::Joined::joined_end, crate::proofs::Joined::joined_claim, crate::proofs::Joined::joined_busy, crate::proofs::Joined::joined_starved))]
     pub(crate) fn add(
         &mut self,
         alloc: Global,
@@ -168,6 +181,10 @@ impl Requirements {
             LineMeaning::Work(rules) => self.add_work(alloc, number, line, &rules),
             LineMeaning::NeverBusy => {
                 self.never_busy = self.never_busy.or(Some(number));
+                Ok(())
+            }
+            LineMeaning::NeverStarved => {
+                self.never_starved = self.never_starved.or(Some(number));
                 Ok(())
             }
         }

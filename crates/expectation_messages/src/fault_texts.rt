@@ -28,6 +28,10 @@ const BEYOND: &str =
 const BUSY: &str =
     "busy comes after never alone, and nothing after it: never busy says that no stream can loop by its own steps alone";
 
+/// Where the word `starved` stands.
+const STARVED: &str =
+    "starved comes after never alone, and nothing after it: never starved says that no stream can wait forever";
+
 /// What the words of a fault are made of.
 #[derive(Clone, Copy)]
 enum FaultText {
@@ -82,6 +86,7 @@ fn text_of(kind: LineFaultKind) -> FaultText {
         LineFaultKind::Operation => FaultText::Fixed(OPERATIONS),
         LineFaultKind::Beyond => FaultText::Fixed(BEYOND),
         LineFaultKind::Busy => FaultText::Fixed(BUSY),
+        LineFaultKind::Starved => FaultText::Fixed(STARVED),
         LineFaultKind::Twice => FaultText::Fixed("a stream is named twice"),
         LineFaultKind::Worth => FaultText::Fixed("a case has 0 to 1000 points"),
         LineFaultKind::Again => FaultText::Fixed("a line above says how many points the case has"),

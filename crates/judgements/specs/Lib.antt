@@ -5,6 +5,7 @@ pub mod Right
 pub mod Flaws
 pub mod Missed
 pub mod Statuses
+pub mod Starved
 pub mod Known
 pub mod Shown
 pub mod Verdicts

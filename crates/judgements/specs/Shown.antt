@@ -17,7 +17,10 @@ use Rattle.expectation_files.specs.declared.faults.FileFault.TheVariants as file
 use Rattle.expectation_files.specs.declared.faults.LineFault.{LineFault}
 use Rattle.expectation_files.specs.declared.requirements.Requirements.{Requirements}
 use Rattle.program_searches.specs.Searches.{IsExplored}
+use Rattle.program_searches.specs.StarvingStreams.Reports.{IsShown}
+use Rattle.program_searches.specs.StarvingStreamsTypes.Starving.{Starving}
 use Rattle.program_searches.specs.Statuses.{unkept_in}
+use Rattle.program_searches.specs.Waits.{starving_in}
 use Rattle.program_searches.specs.declared.explored.Explored.{Explored}
 use Rattle.program_searches.specs.declared.searches.ProgramSearch.{ProgramSearch}
 use Rattle.seed_outcomes.specs.EndStates.EndStates.{IsEndState}
@@ -33,6 +36,7 @@ use Rattle.judgements.specs.Cases.{program_by, said_by, seeds_of, SpeaksOfOthers
 use Rattle.judgements.specs.Known.{known_by, comes_with_search, comes_with_seeds, AreSeedsKnown, HasDecided, IsKnownBySearch, has_work}
 use Rattle.judgements.specs.Flaws.{kind_of_run, kind_of_work, kind_of_end, ShowNothing, IsWorstFlaw}
 use Rattle.judgements.specs.Right.{IsRightCase}
+use Rattle.judgements.specs.Starved.{IsFirstStarving}
 use Rattle.judgements.specs.Statuses.{IsAsBadAsKind}
 use Rattle.judgements.specs.declared.cases.Case.{Case}
 use Rattle.judgements.specs.declared.cases.AskedJudging.{AskedJudging}
@@ -111,12 +115,24 @@ pub record IsUnshownBySchedules (limits : Option SearchLimits) (image : ImageVal
   pub unshown : found.unshown ≡ Some claim
   pub verdict : kind ≡ verdict.Wrong
 
+-- A search shows this stream first of those that can wait forever, which it is required that none can: the schedule leads to
+-- a round in which the stream starves, and no other one leads there in fewer steps.
+pub record IsStarvedBySchedules (limits : Option SearchLimits) (image : ImageValue) (required : Requirements)
+    (kind : VerdictKind) (x : Starving) : Type 0 where
+  pub found : Explored
+  pub search : IsFound limits image required found
+  pub first : IsFirstStarving (starving_in found.waits) x
+  pub asked : IsSome required.never_starved
+  pub shown : IsShown image [] x
+  pub verdict : kind ≡ verdict.Wrong
+
 -- A search found nothing against a program, and not either that it is right.
 pub record IsLeftOpen (limits : Option SearchLimits) (image : ImageValue) (required : Requirements) : Type 0 where
   pub found : Explored
   pub search : IsFound limits image required found
   pub flawless : ShowNothing found.ends.items
   pub shown : (unkept_in found).unshown ≡ None
+  pub unstarved : starving_in found.waits ≡ []
   pub not_right : IsFalse found.is_right
 
 -- The program of an image breaks a rule, the first of those that are required.
@@ -144,6 +160,14 @@ pub record IsBeyondRuns (image : ImageValue) (required : Requirements) (seeds : 
   pub asked : IsSome required.never_busy
   pub verdict : kind ≡ verdict.NotDecided
 
+-- The same where it is required that nobody can wait forever, which no run shows.
+pub record IsBeyondRunsOfWaits (image : ImageValue) (required : Requirements) (seeds : Seeds) (kind : VerdictKind)
+    : Type 0 where
+  pub judged : AreJudged image required.ends.items required.claims.items seeds None
+  pub shown : AreShownBySeeds image required.claims.items seeds
+  pub asked : IsSome required.never_starved
+  pub verdict : kind ≡ verdict.NotDecided
+
 -- it is a verdict by what was looked at alone: right, or left open by a search
 abbrev pub IsLooked : Option SearchLimits → ImageValue → Requirements → VerdictKind → Type 0
 IsLooked limits image required kind =
@@ -162,8 +186,10 @@ IsShownFor p ends kind reason.Looked = IsLooked p.limits p.image p.required kind
 IsShownFor p ends kind (reason.Run run) = IsShownByRun p.image p.required p.seeds kind run
 IsShownFor p ends kind (reason.End place) = IsShownByEnd p.limits p.image p.required ends kind place
 IsShownFor p ends kind (reason.NoSchedule claim) = IsUnshownBySchedules p.limits p.image p.required kind claim
+IsShownFor p ends kind (reason.Starved x) = IsStarvedBySchedules p.limits p.image p.required kind x
 IsShownFor p ends kind (reason.NoRun claim) = IsUnshownByRuns p.image p.required p.seeds kind claim
 IsShownFor p ends kind reason.NoRunCan = IsBeyondRuns p.image p.required p.seeds kind
+IsShownFor p ends kind reason.OpenWaits = IsBeyondRunsOfWaits p.image p.required p.seeds kind
 IsShownFor p ends kind (reason.Rule rule) = IsShownByRule p.image p.required kind rule
 IsShownFor p ends kind (reason.Work missed) = IsShownByWork p.image p.required p.seeds kind missed
 IsShownFor p ends kind (reason.Absent number fault) = ⊥

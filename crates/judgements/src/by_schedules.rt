@@ -12,12 +12,13 @@ use crate::cases::AskedJudging;
 use crate::end_flaws::first_end_flaw;
 use crate::judge_faults::CaseFault;
 use crate::knowledge::Known;
+use crate::starved::first_starving;
 use crate::verdict_kinds::VerdictKind;
 use expectation_files::Requirements;
 use image_file::Image;
 use lab_requests::Bounds;
 use program_searches::{Console, Explored, ProgramSearch, explore_program};
-use std::alloc::Global;
+use std::alloc::{AllocError, Global};
 use std::io::Write;
 use std::thread::Threads;
 use std::time::Clock;
@@ -42,8 +43,9 @@ pub(crate) struct SearchJudgement {
 
 /// What every schedule says of a program: the first that holds of any of its ends of a trap, a deadlock, a wrong end, a
 /// broken claim, a set of worlds that spin. Where none does, it is whether some schedule shows each claim that has to hold
-/// of one world at least. If the search has none of them and did not find all worlds, random schedules are tried: what they
-/// say, and where they say right, that it is not decided. The status is the worst over all.
+/// of one world at least, and then who can wait forever, where nobody is to. If the search has none of them and did not
+/// find all worlds, or not who can wait, random schedules are tried: what they say, and where they say right, that it is
+/// not decided. The status is the worst over all.
 pub(crate) fn judged_by_schedules<X: Threads + Sync, C: Clock, E: Write>(
     rt: &X,
     alloc: Global,
@@ -85,7 +87,7 @@ pub(crate) fn searched<C: Clock, E: Write>(
     let search = search_of(bounds, judged);
     let found = explore_program(alloc, judged.image, &search, console)?;
     let is_shown = found.unshown.is_none();
-    let judgement = judged_by_search(alloc, found);
+    let judgement = judged_by_search(alloc, found)?;
     Ok(SearchJudgement {
         judgement,
         is_shown,
@@ -107,42 +109,47 @@ fn search_of<'a>(bounds: Bounds, judged: JudgedProgram<'a>) -> ProgramSearch<'a>
 }
 
 /// What a search says of a program.
-fn judged_by_search(alloc: Global, found: Explored<'_>) -> CaseJudgement
-    ensures right { result.kind ≡ VerdictKind.Right → IsTrue found.entry.is_right }
-    ensures shown { (p : JudgedAs) → IsFound p.limits p.image p.required found.entry → IsShownBy p result }
-    ensures left { (p : JudgedAs) → IsFound p.limits p.image p.required found.entry
-        → result.kind ≡ VerdictKind.NotDecided → IsLeftOpen p.limits p.image p.required }
-    ensures known { IsKnownBySearch found.entry result }
+fn judged_by_search(alloc: Global, found: Explored<'_>) -> Result<CaseJudgement, AllocError>
+    ensures right { IfOk result (λ j. j.kind ≡ VerdictKind.Right → IsTrue found.entry.is_right) }
+    ensures shown { IfOk result (λ j. (p : JudgedAs) → IsFound p.limits p.image p.required found.entry
+        → IsShownBy p j) }
+    ensures left { IfOk result (λ j. (p : JudgedAs) → IsFound p.limits p.image p.required found.entry
+        → j.kind ≡ VerdictKind.NotDecided → IsLeftOpen p.limits p.image p.required) }
+    ensures known { IfOk result (λ j. IsKnownBySearch found.entry j) }
 {
     let known = known_of(&found);
     let status = found.status();
-    let decided = decided_by(&found);
+    let decided = decided_by(alloc, &found)?;
     let mut judgement = CaseJudgement::plain(alloc, decided.0, known, decided.1);
     judgement.status = status;
     judgement.ends = found.ends;
-    judgement
+    Ok(judgement)
 }
 
 /// What a program is by what a search found, and for which reason.
-fn decided_by(found: &Explored<'_>) -> (VerdictKind, Reason)
-    ensures right { result.0 ≡ VerdictKind.Right → IsTrue found.now.is_right }
-    ensures shown { (p : JudgedAs) → IsFound p.limits p.image p.required found.now
-        → IsShownFor p found.now.ends.items result.0 result.1 }
-    ensures left { (p : JudgedAs) → IsFound p.limits p.image p.required found.now
-        → result.0 ≡ VerdictKind.NotDecided → IsLeftOpen p.limits p.image p.required }
-    ensures searched { is_by_search result.1 ≡ true }
-    ensures decided { HasDecided found.now found.now.ends.items result.0 result.1 }
+fn decided_by(alloc: Global, found: &Explored<'_>) -> Result<(VerdictKind, Reason), AllocError>
+    ensures right { IfOk result (λ d. d.0 ≡ VerdictKind.Right → IsTrue found.now.is_right) }
+    ensures shown { IfOk result (λ d. (p : JudgedAs) → IsFound p.limits p.image p.required found.now
+        → IsShownFor p found.now.ends.items d.0 d.1) }
+    ensures left { IfOk result (λ d. (p : JudgedAs) → IsFound p.limits p.image p.required found.now
+        → d.0 ≡ VerdictKind.NotDecided → IsLeftOpen p.limits p.image p.required) }
+    ensures searched { IfOk result (λ d. is_by_search d.1 ≡ true) }
+    ensures decided { IfOk result (λ d. HasDecided found.now found.now.ends.items d.0 d.1) }
 {
     if let Some(flawed) = first_end_flaw(&found.ends) {
-        return (flawed.flaw.kind(), Reason::End(flawed.end));
+        return Ok((flawed.flaw.kind(), Reason::End(flawed.end)));
     }
     if let Some(claim) = found.unkept().unshown {
-        return (VerdictKind::Wrong, Reason::NoSchedule { claim });
+        return Ok((VerdictKind::Wrong, Reason::NoSchedule { claim }));
+    }
+    let starved = first_starving(alloc, found)?;
+    if let Some(starving) = starved {
+        return Ok((VerdictKind::Wrong, Reason::Starved(starving)));
     }
     if found.is_right {
-        return (VerdictKind::Right, Reason::Looked);
+        return Ok((VerdictKind::Right, Reason::Looked));
     }
-    (VerdictKind::NotDecided, Reason::Looked)
+    Ok((VerdictKind::NotDecided, Reason::Looked))
 }
 
 /// What a search found.

@@ -46,7 +46,7 @@ impl AskedJudging {
 
 /// What random schedules say of a program of which this is required: by the first seed whose run is not right, what is wrong
 /// with that run; where each is right, that it is right, or not decided, where none shows a claim that has to hold of one
-/// world at least, or no stream is to loop alone.
+/// world at least, or no stream is to loop alone, or to wait forever.
 pub(crate) fn judged_by_seeds<X: Threads + Sync>(
     rt: &X,
     alloc: Global,
@@ -124,6 +124,10 @@ fn judged_flawless(
     }
     if required.never_busy().is_some() {
         let reason = Reason::NoRunCan;
+        return Ok(CaseJudgement::plain(alloc, VerdictKind::NotDecided, known, reason));
+    }
+    if required.never_starved().is_some() {
+        let reason = Reason::OpenWaits;
         return Ok(CaseJudgement::plain(alloc, VerdictKind::NotDecided, known, reason));
     }
     Ok(CaseJudgement::plain(alloc, VerdictKind::Right, known, Reason::Looked))

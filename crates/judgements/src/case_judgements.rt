@@ -10,6 +10,7 @@ use crate::verdict_kinds::VerdictKind;
 use end_kinds::{EndKind, Status};
 use expectation_files::LineFault;
 use processor::Step;
+use program_searches::endless::starving::Starving;
 use seed_outcomes::ends_of_space::{SpaceEnd, SpaceEndKind};
 use seed_outcomes::seeds::RunFlaw;
 use seed_outcomes::states::JudgedEnd;
@@ -42,13 +43,17 @@ pub enum Reason {
         /// The place of the first such claim among all.
         claim: usize,
     },
-    /// The same of the runs of all seeds, which says nothing of other schedules.
+    /// That this stream can wait forever, and none is to: the first one that the search shows.
+    Starved(Starving),
+    /// That no run of all seeds shows a claim, which says nothing of other schedules.
     NoRun {
         /// The place of the first such claim among all.
         claim: usize,
     },
     /// That no stream is to loop alone, which no run can show.
     NoRunCan,
+    /// That nobody is to wait forever, which no run can show, and which no search decided, if there was one.
+    OpenWaits,
     /// The rule of programs at this place, which the program breaks.
     Rule(usize),
     /// That the run of a seed does not meet a line about who does the work.
@@ -93,6 +98,8 @@ pub enum MissedLine {
     Claim(usize),
     /// The first line that says that no stream ever loops alone.
     Busy,
+    /// The first line that says that no stream can wait forever.
+    Starved,
     /// A rule of programs.
     Rule(usize),
     /// What a stream, or some streams, have to do in a run.
@@ -184,7 +191,7 @@ impl CaseJudgement {
         judgement
     }
 
-    /// What shows that the submission is not right.
+    /// What shows that the submission is not right: of a stream that can wait forever the schedule that leads to its round.
     pub fn witness(&self, alloc: Global) -> Result<Witness, AllocError> {
         match &self.reason {
             Reason::Run(run) => Ok(Witness::Seed(run.seed)),
@@ -193,10 +200,14 @@ impl CaseJudgement {
                 Some(end) => Ok(Witness::Schedule(Vec::from_slice(alloc, &end.schedule)?)),
                 None => Ok(Witness::None),
             },
+            Reason::Starved(shown) => {
+                Ok(Witness::Schedule(Vec::from_slice(alloc, &shown.stem)?))
+            }
             Reason::Looked
             | Reason::NoSchedule { .. }
             | Reason::NoRun { .. }
             | Reason::NoRunCan
+            | Reason::OpenWaits
             | Reason::Rule(_)
             | Reason::Absent { .. }
             | Reason::Lacking { .. }
@@ -219,6 +230,7 @@ impl CaseJudgement {
                 Some(MissedLine::Claim(*claim))
             }
             Reason::NoRunCan => Some(MissedLine::Busy),
+            Reason::Starved(_) | Reason::OpenWaits => Some(MissedLine::Starved),
             Reason::Rule(place) => Some(MissedLine::Rule(*place)),
             Reason::Work(missed) => Some(MissedLine::Work(missed.rule)),
             Reason::Absent { line, fault } => Some(MissedLine::Absent {

@@ -12,6 +12,7 @@ mod end_flaws;
 mod judge_faults;
 mod knowledge;
 mod requirements;
+mod starved;
 mod submissions;
 mod thorough;
 mod verdict_kinds;

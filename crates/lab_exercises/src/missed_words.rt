@@ -77,6 +77,7 @@ fn missed_words(
             }
         }
         Some(MissedLine::Busy) => put_busy(&mut out, &case.reason),
+        Some(MissedLine::Starved) => put_starved(&mut out, &case.reason),
         Some(MissedLine::Rule(place)) => put_rule_at(&mut out, decided, place),
         Some(MissedLine::Work(_) | MissedLine::Absent { .. }) | None => {}
     }
@@ -107,6 +108,13 @@ fn put_claim(out: &mut TextWriter, line: &str, reason: &Reason) {
 fn put_busy(out: &mut TextWriter, reason: &Reason) {
     if let Reason::End(_) = reason {
         out.put("after this run a stream can loop alone, and none ever should: never busy");
+    }
+}
+
+/// Adds that a stream can wait forever, where a search shows it.
+fn put_starved(out: &mut TextWriter, reason: &Reason) {
+    if let Reason::Starved(_) = reason {
+        out.put("after this run a stream can wait forever, and none ever should: never starved");
     }
 }
 

@@ -2,12 +2,12 @@
 
 use crate::written_files::WrittenFiles;
 use command_parts::{Inputs, LabFault, Program};
-use endless_waits::EndlessWaits;
-use expectation_files::{NEVER_BUSY, Requirements, WrittenLine};
+use expectation_files::{NEVER_BUSY, NEVER_STARVED, Requirements, WrittenLine};
 use plain_text::stem_of;
 use replay_page::{MOST_STEPS, RunNames, RunVerdict, page_of_run};
 use search_texts::push_expected;
-use search_texts::searches::Explored;
+use search_texts::searches::endless::EndlessWaits;
+use search_texts::searches::{Explored, UnkeptWaits};
 use space_graphs::ends_in_words::broken_line;
 use space_graphs::ends_of_space::{SpaceEnd, SpaceEndKind};
 use std::alloc::{AllocError, Global};
@@ -25,7 +25,7 @@ pub(crate) struct FoundProgram<'a> {
     pub required: &'a Requirements,
     /// What the search among its schedules came to.
     pub found: &'a Explored<'a>,
-    /// Who can wait forever; None if that was not asked.
+    /// Who can wait forever; None if that was not asked, or has no answer.
     pub waits: Option<&'a EndlessWaits>,
     /// The folder for the schedules, if they are kept.
     pub keep: Option<&'a str>,
@@ -125,13 +125,15 @@ impl FoundProgram<'_> {
         }
     }
 
-    /// Whether the search does not decide a line that is required of the program as a whole: one about who does the work; and,
-    /// if it came to a bound, a claim that has to hold of one state at least and that none shows, or that no stream loops
-    /// alone.
+    /// Whether the search does not decide a line that is required of the program as a whole: one about who does the work; that
+    /// nobody can wait forever; and, if it came to a bound, a claim that has to hold of one state at least and that none
+    /// shows, or that no stream loops alone.
     fn leaves_a_line(self) -> bool {
         let found = self.found;
         let is_open = found.unshown.is_some() || self.required.never_busy().is_some();
-        !self.required.work().is_empty() || (!found.is_complete && is_open)
+        !self.required.work().is_empty()
+            || found.unkept().waits.is_some()
+            || (!found.is_complete && is_open)
     }
 
     /// The line that an end does not meet: a claim that is broken, an expectation, or one of the program as a whole; empty
@@ -154,7 +156,7 @@ impl FoundProgram<'_> {
     }
 
     /// The first line that the program as a whole does not meet, whatever the end: a rule of programs, a claim that has to
-    /// hold of one state at least, or that no stream loops alone.
+    /// hold of one state at least, that no stream loops alone, or that none can wait forever.
     fn unkept_line(&self) -> Option<&str> {
         let unkept = self.found.unkept();
         if let Some(place) = unkept.rule {
@@ -168,7 +170,11 @@ impl FoundProgram<'_> {
                 return Some(NEVER_BUSY);
             }
         }
-        None
+        match unkept.waits {
+            Some(UnkeptWaits::Starved(_)) => Some(NEVER_STARVED),
+            Some(UnkeptWaits::Undecided(_) | UnkeptWaits::Unanswered(_) | UnkeptWaits::RunsAlone)
+            | None => None,
+        }
     }
 }
 

@@ -2,12 +2,12 @@
 
 use crate::waiting_objects::push_waits_objects;
 use crate::waiting_text::push_waits_lines;
-use endless_waits::EndlessWaits;
-use endless_waits::starving::StarvingStreams;
 use image_file::Image;
 use lab_texts::ProgramNames;
 use processor::Step;
 use search_texts::searches::Explored;
+use search_texts::searches::endless::EndlessWaits;
+use search_texts::searches::endless::starving::StarvingStreams;
 use std::alloc::{AllocError, Global};
 
 /// A program of which it was asked who can wait forever.

@@ -21,7 +21,7 @@ use std::alloc::{AllocError, Global};
 /// The most turns of a schedule that are shown with a claim that it breaks.
 const MOST_TURNS: usize = 40;
 
-/// What is said of a search among the schedules of a program, and of who can wait forever, if that was asked.
+/// What is said of a search among the schedules of a program, and of who can wait forever, if that was asked or is required.
 pub(crate) fn answer_of(
     alloc: Global,
     is_json: bool,

@@ -7,14 +7,14 @@ use crate::graphs::{GraphedSearch, write_graph};
 use crate::written_files::WrittenFiles;
 use asked_programs::{WarnedProgram, read_warned_program};
 use command_parts::{CommandAnswer, Inputs, LabFault, Program, read_steps, style_of};
-use endless_waits::{EndlessWaits, endless_waits};
 use expectation_files::Requirements;
 use expectation_messages::requirements_of;
 use lab_requests::ExploreRequest;
 use lab_texts::{Notation, ProgramNames};
 use processor::Step;
 use search_texts::search_fault;
-use search_texts::searches::{Console, Explored, ProgramSearch, explore_program};
+use search_texts::searches::endless::EndlessWaits;
+use search_texts::searches::{Console, Explored, ProgramSearch, endless_waits_of, explore_program};
 use std::alloc::Global;
 use std::io::{Read, Write};
 use std::rt::Files;
@@ -79,7 +79,7 @@ fn show_ends<C: Clock, F: Files, R: Read, E: Write>(
         program: read.program,
         required: read.required,
         found: &found,
-        waits: waits.as_ref(),
+        waits: waits_shown(waits.as_ref(), &found),
         keep: request.keep,
     };
     let mut answer = answer_of(alloc, request.shown.json, notation, shown)?;
@@ -126,7 +126,22 @@ fn waits_asked(
     if !request.asks_who_waits {
         return Ok(None);
     }
-    Ok(Some(endless_waits(alloc, found)?))
+    Ok(Some(endless_waits_of(alloc, found)?))
+}
+
+/// Who can wait forever, if it is asked, or if it is required that nobody can and the search has an answer.
+fn waits_shown<'a>(
+    asked: Option<&'a EndlessWaits>,
+    found: &'a Explored<'_>,
+) -> Option<&'a EndlessWaits> {
+    match (asked, &found.waits) {
+        (Some(waits), _) => Some(waits),
+        (None, Some(waits)) => match waits {
+            EndlessWaits::Answered(_) => Some(waits),
+            EndlessWaits::Unanswered(_) => None,
+        },
+        (None, None) => None,
+    }
 }
 
 /// The steps that all schedules are to begin with.

@@ -2,9 +2,9 @@
 
 use crate::written_files::WrittenFiles;
 use command_parts::{Inputs, LabFault};
-use endless_waits::EndlessWaits;
-use endless_waits::starving::Starving;
 use processor::Step;
+use search_texts::searches::endless::EndlessWaits;
+use search_texts::searches::endless::starving::Starving;
 use std::alloc::{AllocError, Global};
 use std::io::Read;
 use std::rt::Files;

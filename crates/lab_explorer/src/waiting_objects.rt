@@ -2,11 +2,11 @@
 
 use crate::endless::WaitingProgram;
 use command_parts::push_object;
-use endless_waits::starving::Starving;
-use endless_waits::{EndlessWaits, SeenRound, StreamSteps, seen_round};
 use lab_json::{List, Object, stream_value, text_value, turns_value};
 use lab_texts::{ProgramNames, wanted_word};
 use processor::Step;
+use search_texts::searches::endless::starving::Starving;
+use search_texts::searches::endless::{EndlessWaits, SeenRound, StreamSteps, seen_round};
 use serde_json::Value;
 use std::alloc::{AllocError, Global};
 

@@ -2,16 +2,12 @@
 
 use crate::endless::WaitingProgram;
 use crate::waiting_files::waiting_path;
-use endless_waits::starving::Starving;
-use endless_waits::waits_of_streams::Wait;
-use endless_waits::{EndlessWaits, SeenRound, StreamSteps, seen_round};
-use lab_texts::{ProgramNames, RunPieces, TextWriter, wanted_word};
+use lab_texts::{ProgramNames, RunPieces, TextWriter};
 use processor::Step;
-use schedule_turns::turns_of;
+use search_texts::searches::endless::starving::Starving;
+use search_texts::searches::endless::{EndlessWaits, SeenRound, StreamSteps, seen_round};
+use search_texts::{put_turns, put_waiting};
 use std::alloc::{AllocError, Global};
-
-/// The most turns of a schedule, or of a round, that are shown.
-const MOST_TURNS: usize = 40;
 
 /// Blanks in front of the line below a stream.
 const INDENT: &str = "        ";
@@ -89,12 +85,7 @@ fn put_starving(
     round: &SeenRound,
 ) {
     out.put("fair by words: ");
-    out.put_stream(starving.stream.p, starving.stream.s);
-    out.put(" can wait forever at ");
-    names.put_place(out, round.place);
-    if let Some(wait) = round.wait {
-        put_wait(out, names, wait);
-    }
+    put_waiting(out, names, starving.stream, round);
     out.put(": a schedule of ");
     put_steps(out, starving.stem.len());
     out.put(", then ");
@@ -102,13 +93,6 @@ fn put_starving(
     out.put(" again and again, in which ");
     put_streams(out, &round.streams);
     out.put("\n");
-}
-
-/// Adds what a stream waits for.
-fn put_wait(out: &mut TextWriter, names: &ProgramNames<'_>, wait: Wait) {
-    out.put(", for ");
-    names.put_address(out, wait.address);
-    out.put_all(&[" to be ", wanted_word(wait.wanted)]);
 }
 
 /// Adds how many steps they are.
@@ -177,22 +161,5 @@ fn put_kept(
     out.put(": view and page mark the round with --round ");
     out.put_number(starving.round.len() as u64);
     out.put("\n");
-    Ok(())
-}
-
-/// Adds the turns of a schedule, as `0 0 3, 1 0 2`, up to 40.
-fn put_turns(out: &mut TextWriter, steps: &[Step]) -> Result<(), AllocError> {
-    for (index, turn) in turns_of(out.alloc(), steps)?.iter().enumerate() {
-        if index == MOST_TURNS {
-            out.put(", ..");
-            break;
-        }
-        out.put(if index == 0 { "" } else { ", " });
-        out.put_number(u64::from(turn.stream.p));
-        out.put(" ");
-        out.put_number(u64::from(turn.stream.s));
-        out.put(" ");
-        out.put_number(turn.count as u64);
-    }
     Ok(())
 }

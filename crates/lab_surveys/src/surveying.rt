@@ -12,7 +12,9 @@ use lab_requests::{Bounds, SurveyRequest};
 use lab_texts::{Notation, ProgramNames};
 use plain_text::push_plain;
 use program_rules::first_broken;
-use search_texts::searches::{Console, Explored, ProgramSearch, Unkept, explore_program};
+use search_texts::searches::{
+    Console, Explored, ProgramSearch, Unkept, UnkeptWaits, explore_program,
+};
 use search_texts::{
     EndCells, EndColumns, LookedAt, end_line, push_expected, push_unkept, push_unkept_objects,
     search_fault,
@@ -137,8 +139,18 @@ fn unkept_by_seeds(
     Ok(Unkept {
         rule: first_broken(&program.image, required.rules()),
         unshown: unshown_by_seeds(alloc, &program.image, required.claims(), tried)?,
+        waits: waits_by_runs(required),
         undecided: required.never_busy(),
     })
+}
+
+/// That runs do not decide who can wait forever, if it is required that nobody can.
+fn waits_by_runs(required: &Requirements) -> Option<UnkeptWaits> {
+    if required.never_starved().is_some() {
+        Some(UnkeptWaits::RunsAlone)
+    } else {
+        None
+    }
 }
 
 /// Adds what of the program as a whole is not so, by the states that were looked at.

@@ -234,6 +234,8 @@ const FAULTS: [(&str, usize, usize, LineFaultKind); 66] = [
     ),
     ("some busy", 1, 1, LineFaultKind::Busy),
     ("never busy 3", 1, 1, LineFaultKind::Busy),
+    ("always starved", 1, 1, LineFaultKind::Starved),
+    ("never starved 3", 1, 1, LineFaultKind::Starved),
     ("entries x", 1, 1, LineFaultKind::Count),
     ("entries", 1, 0, LineFaultKind::Form(LineForm::Entries)),
     (

@@ -1,11 +1,11 @@
 //! What is required of a program, as it is written.
 
-use expectation_files::{NEVER_BUSY, Requirements, WrittenLine};
+use expectation_files::{NEVER_BUSY, NEVER_STARVED, Requirements, WrittenLine};
 use search_texts::is_another_line;
 use std::alloc::{AllocError, Global};
 
 /// What is expected of ends, and what is claimed, as it is written: first the lines on ends, in the order of the expectations.
-/// Lines about who does the work are not among them.
+/// Lines about who does the work, and the one that no stream can wait forever, are not among them.
 pub(crate) fn expected_texts(
     alloc: Global,
     required: &Requirements,
@@ -20,7 +20,8 @@ pub(crate) fn expected_texts(
     Ok(texts)
 }
 
-/// The lines about who does the work, as they are written, each once: the page does not judge them.
+/// The lines about who does the work, as they are written, each once, and the one that no stream can wait forever: the page
+/// does not judge them.
 pub(crate) fn unjudged_texts(
     alloc: Global,
     required: &Requirements,
@@ -31,6 +32,9 @@ pub(crate) fn unjudged_texts(
         if is_another_line(lines, place) {
             texts.push(String::from_str(alloc, &line.words)?)?;
         }
+    }
+    if required.never_starved().is_some() {
+        texts.push(String::from_str(alloc, NEVER_STARVED)?)?;
     }
     Ok(texts)
 }

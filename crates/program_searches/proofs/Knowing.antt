@@ -144,9 +144,16 @@ or_right : (a b : Bool) → b ≡ true → (a || b) ≡ true
 or_right true b on = refl
 or_right false b on = on
 
+or_left : (a b : Bool) → a ≡ true → (a || b) ≡ true
+or_left true b on = refl
+or_left false b on = cc
+
 -- where no stream is to loop alone all worlds are looked for
 pub all_if_never_busy : (asked : ProgramSearch) → IsSome asked.required.now.never_busy → IsTrue (takes_all asked)
-all_if_never_busy asked some = or_right asked.is_plain (is_some asked.required.now.never_busy) some
+all_if_never_busy asked some =
+    let required = asked.required.now in
+    or_left (asked.is_plain || is_some required.never_busy) (is_some required.never_starved)
+    (or_right asked.is_plain (is_some required.never_busy) some)
 
 -- whether there is none
 pub none_if : {A : Type 0} (b : Option A) (t : Bool) → is_some b ≡ not t → t ≡ true → b ≡ None

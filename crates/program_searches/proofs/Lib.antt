@@ -1,3 +1,4 @@
 mod Knowing
 mod Listed
 mod Short
+mod Waiting

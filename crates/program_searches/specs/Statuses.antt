@@ -1,11 +1,14 @@
 -- The exit status that a search comes to.
-use Rattle.std.specs.Prelude.{nat_le, Bool, true, false, ◌&&◌, ◌||◌, if◌then◌else◌, List, [], ◌∷◌, map, None, is_some}
+use Rattle.std.specs.Prelude.{nat_le, Bool, true, false, ◌&&◌, ◌||◌, if◌then◌else◌, List, [], ◌∷◌, map, Option, Some, None, is_some}
 use Rattle.end_kinds.specs.Statuses.{badness}
 use Rattle.end_kinds.specs.declared.statuses.Status.{Status}
 use Rattle.end_kinds.specs.declared.statuses.Status.TheVariants as status
 use Rattle.space_ends.specs.Judging.{end_status}
 use Rattle.program_searches.specs.declared.explored.Explored.{Explored}
 use Rattle.program_searches.specs.declared.unkept.Unkept.{Unkept}
+use Rattle.program_searches.specs.declared.unkept.UnkeptWaits.{UnkeptWaits}
+use Rattle.program_searches.specs.declared.unkept.UnkeptWaits.TheVariants as unkept
+use Rattle.program_searches.specs.Waits.{unkept_waits}
 
 -- the worse of two statuses
 abbrev pub worse : Status → Status → Status
@@ -21,17 +24,27 @@ abbrev pub status_of_bound : Bool → Status
 status_of_bound true = status.Done
 status_of_bound false = status.OutOfSteps
 
+-- whether a stream is shown to wait forever
+abbrev pub is_starved : Option UnkeptWaits → Bool
+is_starved None = false
+is_starved (Some (unkept.Starved who)) = true
+is_starved (Some (unkept.Undecided who)) = false
+is_starved (Some (unkept.Unanswered u)) = false
+is_starved (Some unkept.RunsAlone) = false
+
 -- of what is required of the program as a whole and is not so, by every schedule or by some runs
 abbrev pub status_of_unkept : Unkept → Bool → Status
 status_of_unkept u every =
-    if is_some u.rule || (every && is_some u.unshown) then status.Unexpected
-    else (if is_some u.unshown || is_some u.undecided then status.OutOfSteps else status.Done)
+    if is_some u.rule || (every && is_some u.unshown) || is_starved u.waits then status.Unexpected
+    else (if is_some u.unshown || is_some u.undecided || is_some u.waits then status.OutOfSteps else status.Done)
 
--- what a search knows not to be so: of a claim that none shows only where it is complete
+-- what a search knows not to be so: of a claim that none shows only where it is complete; and what it does not know of who can
+-- wait forever
 abbrev pub unkept_in : Explored → Unkept
 unkept_in e = record {
   rule = e.broken_rule;
   unshown = if e.is_complete then e.unshown else None;
+  waits = unkept_waits e.waits;
   undecided = None;
 }
 

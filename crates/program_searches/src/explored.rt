@@ -4,10 +4,13 @@ ghost use Rattle.std.specs.Prelude.{◌≡◌, length};
 ghost use Rattle.space_ends.specs.ScheduleSpace.Spaces.{count};
 ghost use Rattle.program_searches.specs.Shortest.{is_last, is_shortest_by_ends, is_shortest};
 ghost use Rattle.program_searches.specs.Statuses.{status_of_bound, unkept_in, status_of_search};
+ghost use Rattle.program_searches.specs.Waits.{extent_of};
 
 use crate::bounds::SearchBound;
-use crate::unkept::Unkept;
+use crate::unkept::{Unkept, unkept_waits};
+use crate::waits::extent_by;
 use end_kinds::{EndKind, Status};
+use endless_waits::{EndlessWaits, SearchExtent};
 use space_ends::space::Space;
 use space_ends::{SpaceEnd, SpaceEndKind};
 
@@ -28,9 +31,11 @@ pub struct Explored<'i> {
     pub broken_rule: Option<usize>,
     /// The place of the first claim that has to hold of one world at least and that none shows, among all claims.
     pub unshown: Option<usize>,
+    /// Who can wait forever, where it is required that nobody can.
+    pub waits: Option<EndlessWaits>,
     /// Whether they are all, something is required, the program keeps the rules, every schedule is right, its end and each
-    /// world on its way, each claim that has to hold of one world at least does, and no stream loops alone where that
-    /// is required (PROMISES.md, "Every schedule is right").
+    /// world on its way, each claim that has to hold of one world at least does, no stream loops alone where that is
+    /// required, and nobody can wait forever where that is (PROMISES.md, "Every schedule is right").
     pub is_right: bool,
 }
 
@@ -56,6 +61,13 @@ impl Explored<'_> {
         self.space.begin().len()
     }
 
+    /// How far the search went.
+    pub fn extent(&self) -> SearchExtent
+        ensures { result ≡ extent_of self.now }
+    {
+        extent_by(self.is_of_all_worlds, self.is_complete)
+    }
+
     /// Whether it is known that no schedule to an end is shorter than its own. The search that is not of all worlds leaves
     /// out worlds on the way: it says so of ends, where it has all, and of a claim that is broken on the way through the
     /// steps that all schedules begin with; neither of what spins nor of other broken claims.
@@ -68,13 +80,15 @@ impl Explored<'_> {
             || end.schedule.is_empty()
     }
 
-    /// What is required of the program as a whole, and is known not to be so: of what was not looked at nothing is known.
+    /// What is required of the program as a whole, and is known not to be so: of what was not looked at nothing is known. Of
+    /// who can wait forever it also says why it is not known that nobody can.
     pub fn unkept(&self) -> Unkept
         ensures { result ≡ unkept_in self.now }
     {
         Unkept {
             rule: self.broken_rule,
             unshown: if self.is_complete { self.unshown } else { None },
+            waits: unkept_waits(&self.waits),
             undecided: None,
         }
     }

@@ -10,12 +10,15 @@ mod looking;
 mod searches;
 mod spaces;
 mod unkept;
+mod waits;
 mod watching;
 
 pub use bounds::{SearchBound, USUAL_MEGABYTES};
+pub use endless_waits as endless;
 pub use explored::Explored;
 pub use laws::no_schedule_to_it_is_shorter;
 pub use searches::{ProgramSearch, SearchFault, explore_program};
 pub use space_ends as ends_of_space;
-pub use unkept::Unkept;
+pub use unkept::{Unkept, UnkeptWaits};
+pub use waits::endless_waits_of;
 pub use watching::Console;

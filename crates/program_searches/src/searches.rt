@@ -1,11 +1,11 @@
 //! What is looked for among the schedules of a program, and what the search comes to.
 //!
-//! **What is kept.** `Explored` owns the space that was found, the ends of it, and five answers: whether the search is
-//! complete, what ended it, the first rule that is broken, the first claim that none shows, and whether all is right. They
-//! are made once, in `explore_on`, of values alone; whoever prints them decides nothing more.
+//! **What is kept.** `Explored` owns the space that was found, the ends of it, and six answers: whether the search is
+//! complete, what ended it, the first rule that is broken, the first claim that none shows, who can wait forever, and
+//! whether all is right. They are made once, in `explore_on`, of values alone; whoever prints them decides nothing more.
 //!
-//! **Two searches.** All worlds are looked for if that is asked for, and if no stream is to loop alone: a space of fewer
-//! worlds says nothing of that. Otherwise `explore_ends` looks for what is needed: it names each register at which an
+//! **Two searches.** All worlds are looked for if that is asked for, and if no stream is to loop alone, or to wait forever: a
+//! space of fewer worlds says nothing of that. Otherwise `explore_ends` looks for what is needed: it names each register at which an
 //! expectation looks, and each place at which a claim looks. So ends and claims are judged by few worlds, and the verdict
 //! is that of every schedule.
 //!
@@ -40,11 +40,15 @@ ghost use Rattle.space_ends.specs.ScheduleVerdicts.NamedRegisters.{AreNamed};
 ghost use Rattle.space_ends.specs.ScheduleVerdicts.RightSpaces.{IsFollowedForClaims, IsRightOnEachWay};
 ghost use Rattle.space_ends.specs.ScheduleVerdicts.ShownClaims.{AreShown, IsRightThroughout, IsUnshownAt, TellsOfClaims};
 ghost use Rattle.program_searches.specs.Bounds.{IsOfClock};
+ghost use Rattle.endless_waits.specs.StarvingStreams.Starving.{NobodyWaits};
 ghost use Rattle.program_searches.specs.Searches.{most_worlds, takes_all, SaysWhetherRight, IsExplored};
+ghost use Rattle.program_searches.specs.Waits.{is_unstarved};
 
 use crate::explored::Explored;
 use crate::spaces::space_in_time;
+use crate::waits::{extent_by, is_unstarved, waits_in};
 use crate::watching::{Console, WatchedSearch, Watcher};
+use endless_waits::EndlessWaits;
 use expectation_files::Requirements;
 use image_file::Image;
 use image_machines::by_least_room;
@@ -111,11 +115,13 @@ impl ProgramSearch<'_> {
         }
     }
 
-    /// Whether all worlds are looked for: where it is asked for, and where no stream is to loop alone.
+    /// Whether all worlds are looked for: where it is asked for, and where no stream is to loop alone, or to wait forever.
     pub(crate) fn takes_all(&self) -> bool
         ensures { result ≡ takes_all self.now }
     {
-        self.is_plain || self.required.never_busy().is_some()
+        self.is_plain
+            || self.required.never_busy().is_some()
+            || self.required.never_starved().is_some()
     }
 }
 
@@ -151,6 +157,8 @@ pub fn explore_program<'i, C: Clock, E: Write>(
     console: &mut Console<'_, C, E>,
 ) -> Result<Explored<'i>, SearchFault>
     ensures right { IfOk result (λ e. SaysWhetherRight image.entry.now asked.now e) }
+    ensures unstarved { IfOk result (λ e. IsTrue e.is_right → IsSome asked.now.required.now.never_starved
+        → NobodyWaits image.entry.now asked.now.begin.now) }
     ensures explored { IfOk result (λ e. IsExplored image.entry.now asked.now e) }
     ensures clock { IfErr result (λ f. IsOfClock f → IsSome asked.now.bounds.seconds) }
 {
@@ -199,17 +207,29 @@ fn explore_on<'i, C: Clock, E: Write, const S: usize>(
     let ends = space_ends::<S>(alloc, judged_by, &space, is_complete, busy)?;
     let unshown = unshown_in::<S>(alloc, required, &space)?;
     let is_judged = asked.judges(image, is_complete, unshown, busy);
-    let is_right = are_all_right::<S>(alloc, required, &space, is_judged)?;
+    let are_right = are_all_right::<S>(alloc, required, &space, is_judged)?;
+    let is_of_all_worlds = asked.takes_all();
+    let extent = extent_by(is_of_all_worlds, is_complete);
+    let waits = waits_in(alloc, required, &space, extent)?;
+    let is_right = unless_starved(are_right, required, &waits);
     Ok(Explored {
         space,
         is_complete,
         bound,
-        is_of_all_worlds: asked.takes_all(),
+        is_of_all_worlds,
         ends,
         broken_rule: first_broken(image, required.rules()),
         unshown,
+        waits,
         is_right,
     })
+}
+
+/// Whether all is right of what is, where nobody can wait forever if that is required.
+fn unless_starved(are_right: bool, required: &Requirements, waits: &Option<EndlessWaits>) -> bool
+    ensures { IsTrue result ↔ (IsTrue are_right × IsTrue (is_unstarved required.now waits.now)) }
+{
+    are_right && is_unstarved(required, waits)
 }
 
 /// The first of the claims, counted from 0, that have to hold of one world at least and that no world of a space shows, nor

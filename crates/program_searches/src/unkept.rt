@@ -1,9 +1,26 @@
 //! What is required of a program as a whole, and is not so.
 
 ghost use Rattle.std.specs.Prelude.{◌≡◌};
-ghost use Rattle.program_searches.specs.Statuses.{status_of_unkept};
+ghost use Rattle.program_searches.specs.Statuses.{is_starved, status_of_unkept};
+ghost use Rattle.program_searches.specs.Waits.{first_waiting, unkept_waits};
 
 use end_kinds::Status;
+use endless_waits::starving::Starving;
+use endless_waits::{EndlessWaits, Unanswered};
+use processor::Step;
+
+/// Why it is not known that nobody can wait forever.
+#[derive(Clone, Copy, Debug)]
+pub enum UnkeptWaits {
+    /// This stream can: the first one that is shown.
+    Starved(Step),
+    /// Of this stream it was not decided, the first one.
+    Undecided(Step),
+    /// It was not asked, for this reason.
+    Unanswered(Unanswered),
+    /// Runs were looked at alone, which do not decide it.
+    RunsAlone,
+}
 
 /// What is required of a program as a whole, and is not so.
 #[derive(Clone, Copy, Debug)]
@@ -12,6 +29,8 @@ pub struct Unkept {
     pub rule: Option<usize>,
     /// The place of the first claim that has to hold of one world at least, and that none shows which was looked at.
     pub unshown: Option<usize>,
+    /// Why it is not known that nobody can wait forever, where that is required.
+    pub waits: Option<UnkeptWaits>,
     /// The number of the line `never busy`, where runs were looked at alone, which do not decide it.
     pub undecided: Option<usize>,
 }
@@ -22,12 +41,47 @@ impl Unkept {
     pub fn status(self, is_of_every: bool) -> Status
         ensures { result ≡ status_of_unkept self is_of_every }
     {
-        if self.rule.is_some() || (is_of_every && self.unshown.is_some()) {
+        if self.rule.is_some() || (is_of_every && self.unshown.is_some()) || self.is_starved() {
             Status::Unexpected
-        } else if self.unshown.is_some() || self.undecided.is_some() {
+        } else if self.unshown.is_some() || self.undecided.is_some() || self.waits.is_some() {
             Status::OutOfSteps
         } else {
             Status::Done
         }
+    }
+
+    /// Whether a stream is shown to wait forever.
+    fn is_starved(self) -> bool
+        ensures { result ≡ is_starved self.waits }
+    {
+        match self.waits {
+            Some(UnkeptWaits::Starved(_)) => true,
+            Some(UnkeptWaits::Undecided(_) | UnkeptWaits::Unanswered(_) | UnkeptWaits::RunsAlone)
+            | None => false,
+        }
+    }
+}
+
+/// Why it is not known that nobody can wait forever, by what was said of it; None if it is known, or was not asked.
+pub(crate) fn unkept_waits(waits: &Option<EndlessWaits>) -> Option<UnkeptWaits>
+    ensures { result ≡ unkept_waits waits.now }
+{
+    match waits {
+        Some(EndlessWaits::Answered(found)) => first_waiting(&found.starving, &found.undecided),
+        Some(EndlessWaits::Unanswered(reason)) => Some(UnkeptWaits::Unanswered(*reason)),
+        None => None,
+    }
+}
+
+/// The first stream that is shown to wait forever, or else the first that is left undecided.
+fn first_waiting(starving: &[Starving], undecided: &[Step]) -> Option<UnkeptWaits>
+    ensures { result ≡ first_waiting starving.now undecided.now }
+{
+    if let [shown, ..] = starving {
+        return Some(UnkeptWaits::Starved(shown.stream));
+    }
+    match undecided {
+        [who, ..] => Some(UnkeptWaits::Undecided(*who)),
+        [] => None,
     }
 }

@@ -1,9 +1,9 @@
 //! What is required of a program as a whole, and is not so, in words.
 
 use command_parts::push_object;
-use expectation_files::{NEVER_BUSY, Requirements, WrittenLine};
+use expectation_files::{NEVER_BUSY, NEVER_STARVED, Requirements, WrittenLine};
 use lab_json::{Object, line_value};
-use program_searches::Unkept;
+use program_searches::{Unkept, UnkeptWaits};
 use serde_json::Value;
 use std::alloc::{AllocError, Global};
 
@@ -37,8 +37,8 @@ impl LookedAt {
     }
 }
 
-/// Adds the first rule that a program breaks, if it breaks one, and the first claim that no world shows of those that were
-/// looked at.
+/// Adds the first rule that a program breaks, if it breaks one, the first claim that no world shows of those that were
+/// looked at, and why it is not known that nobody can wait forever.
 pub fn push_unkept(
     out: &mut String,
     required: &Requirements,
@@ -57,6 +57,7 @@ pub fn push_unkept(
         let place = looked_at.words();
         write!(out, "{head}: {words} (line {line}): {place}\n")?;
     }
+    push_waits(out, required, unkept)?;
     if let Some(line) = unkept.undecided {
         write!(
             out,
@@ -64,6 +65,35 @@ pub fn push_unkept(
         )?;
     }
     Ok(())
+}
+
+/// Adds why it is not known that nobody can wait forever, where that is required.
+fn push_waits(out: &mut String, required: &Requirements, unkept: Unkept) -> Result<(), AllocError> {
+    let (Some(line), Some(waits)) = (required.never_starved(), unkept.waits) else {
+        return Ok(());
+    };
+    let head = match waits {
+        UnkeptWaits::Starved(_) => "NOT as expected",
+        UnkeptWaits::Undecided(_) | UnkeptWaits::Unanswered(_) | UnkeptWaits::RunsAlone => {
+            "not decided"
+        }
+    };
+    write!(out, "{head}: {NEVER_STARVED} (line {line}): ")?;
+    match waits {
+        UnkeptWaits::Starved(who) => {
+            let (p, s) = (who.p, who.s);
+            write!(out, "{p}.{s} can wait forever\n")
+        }
+        UnkeptWaits::Undecided(who) => {
+            let (p, s) = (who.p, who.s);
+            write!(out, "whether {p}.{s} can wait forever\n")
+        }
+        UnkeptWaits::Unanswered(reason) => {
+            let words = reason.words();
+            write!(out, "{words}\n")
+        }
+        UnkeptWaits::RunsAlone => out.push_str("a run cannot show it; use --explore\n"),
+    }
 }
 
 /// Adds the objects of the same.
@@ -81,11 +111,32 @@ pub fn push_unkept_objects(
         let line = line_value(alloc, claim.number, &claim.words);
         push_line_object(alloc, out, "unshown", "claim", line)?;
     }
+    push_waits_object(alloc, out, required, unkept)?;
     if let Some(number) = unkept.undecided {
         let line = line_value(alloc, number, NEVER_BUSY);
         push_line_object(alloc, out, "undecided", "claim", line)?;
     }
     Ok(())
+}
+
+/// Adds the object of the line that says that no stream can wait forever, where it is broken or not decided.
+fn push_waits_object(
+    alloc: Global,
+    out: &mut String,
+    required: &Requirements,
+    unkept: Unkept,
+) -> Result<(), AllocError> {
+    let (Some(number), Some(waits)) = (required.never_starved(), unkept.waits) else {
+        return Ok(());
+    };
+    let kind = match waits {
+        UnkeptWaits::Starved(_) => "broken",
+        UnkeptWaits::Undecided(_) | UnkeptWaits::Unanswered(_) | UnkeptWaits::RunsAlone => {
+            "undecided"
+        }
+    };
+    let line = line_value(alloc, number, NEVER_STARVED);
+    push_line_object(alloc, out, kind, "claim", line)
 }
 
 /// The line of the rule that the program breaks.

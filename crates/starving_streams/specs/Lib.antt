@@ -3,3 +3,5 @@ pub mod Starving
 pub mod Reports
 -- Cited by private contracts alone.
 pub mod Graphs
+-- Of crates below, passed on to callers.
+pub mod ScheduleSpace

@@ -10,4 +10,5 @@ mod starving;
 mod targets;
 
 pub use reports::{Starving, StarvingStreams};
+pub use schedule_space as space;
 pub use starving::starving_streams;

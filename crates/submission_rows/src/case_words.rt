@@ -8,19 +8,29 @@ use expectation_messages::fault_words;
 use expectation_messages::parts::made_by;
 use grade_reports::ReportLine;
 use grade_reports::judges::work::MissedWork;
-use grade_reports::judges::{Case, CaseJudgement, MissedLine, Reason, RunFlaw, ShownRun};
+use grade_reports::judges::{
+    Case, CaseJudgement, Known, MissedLine, Reason, RunFlaw, ShownRun, VerdictKind,
+};
 use image_file::Image;
 use image_machines::by_room;
 use lab_requests::Maker;
-use lab_texts::{Notation, ProgramNames};
+use lab_texts::{Notation, ProgramNames, TextWriter};
 use processor::Step;
 use search_texts::ends_in_words::ends_of_space::{SpaceEnd, SpaceEndKind};
 use search_texts::ends_in_words::{
     WordRange, cycle_text, first_finding, going_text, state_text_of_run, text_of_end,
 };
-use search_texts::work_words;
+use search_texts::searches::endless::seen_round;
+use search_texts::searches::endless::starving::Starving;
+use search_texts::{put_turns, put_waiting, work_words};
 use source_places::SourcePlaces;
 use std::alloc::{AllocError, Global};
+
+/// What is said of a line that no run shows.
+const NO_RUN_CAN: &str = "a run cannot show it; use --explore";
+
+/// What is said where a search has all, and it was not decided who can wait forever.
+const WAITS_LEFT_OPEN: &str = "it is not decided who can wait forever: explore says why";
 
 /// What decides a judgement by a case, in words.
 #[derive(Drop)]
@@ -70,10 +80,8 @@ impl CaseNotation<'_, '_> {
         text.missed = self.lines.line_of(alloc, missed)?;
         let words = missed_words(alloc, self.lines.required, missed)?;
         match &judgement.reason {
-            Reason::Looked
-            | Reason::Absent { .. }
-            | Reason::Lacking { .. }
-            | Reason::NotGiven { .. } => Ok(()),
+            Reason::Absent { .. } | Reason::Lacking { .. } | Reason::NotGiven { .. } => Ok(()),
+            Reason::Looked => text.words.push_str(left_open(judgement)),
             Reason::Run(run) => self.add_run(alloc, run, &words, text),
             Reason::End(place) => match judgement.ends.get(*place) {
                 Some(end) => self.add_end(alloc, end, &words, text),
@@ -81,7 +89,9 @@ impl CaseNotation<'_, '_> {
             },
             Reason::NoSchedule { .. } => text.words.push_str("no schedule has such a state"),
             Reason::NoRun { .. } => text.words.push_str("no run has such a state"),
-            Reason::NoRunCan => text.words.push_str("a run cannot show it; use --explore"),
+            Reason::Starved(shown) => self.add_starving(alloc, shown, &words, text),
+            Reason::NoRunCan => text.words.push_str(NO_RUN_CAN),
+            Reason::OpenWaits => text.words.push_str(why_open(judgement.known)),
             Reason::Rule(_) => self.add_rule(text),
             Reason::Work(missed) => self.add_work(alloc, *missed, text),
         }
@@ -124,6 +134,24 @@ impl CaseNotation<'_, '_> {
             text.words = self.end_words(alloc, end)?;
         }
         text.finding = self.finding(alloc, &end.schedule, words)?;
+        Ok(())
+    }
+
+    /// Writes where a stream can wait forever and for what, after its schedule, and the round in which it does.
+    fn add_starving(
+        self,
+        alloc: Global,
+        shown: &Starving,
+        words: &[WordRange],
+        text: &mut CaseText,
+    ) -> Result<(), AllocError> {
+        let round = seen_round(alloc, self.image, shown)?;
+        let mut out = TextWriter::new(alloc);
+        put_waiting(&mut out, self.notation.names, shown.stream, &round);
+        out.put(", again and again ");
+        put_turns(&mut out, &shown.round)?;
+        text.words = out.take_text()?;
+        text.finding = self.finding(alloc, &shown.stem, words)?;
         Ok(())
     }
 
@@ -182,6 +210,26 @@ impl CaseNotation<'_, '_> {
     }
 }
 
+/// What a verdict leaves open by all that was looked at, after a search that has all: who can wait forever.
+fn left_open(judgement: &CaseJudgement) -> &'static str {
+    if judgement.kind == VerdictKind::NotDecided && judgement.known.is_every {
+        WAITS_LEFT_OPEN
+    } else {
+        ""
+    }
+}
+
+/// Why it is not decided who can wait forever, by what was looked at.
+fn why_open(known: Known) -> &'static str {
+    if known.is_every {
+        WAITS_LEFT_OPEN
+    } else if known.worlds.is_some() {
+        "the search is not complete"
+    } else {
+        NO_RUN_CAN
+    }
+}
+
 /// The same, on machines with room for `S` streams a processor.
 fn finding_of<const S: usize>(
     alloc: Global,
@@ -207,9 +255,13 @@ fn missed_words(
             .len()
             .saturating_add(required.claims().len())
             .saturating_add(place),
-        Some(MissedLine::Busy | MissedLine::Rule(_) | MissedLine::Absent { .. }) | None => {
-            return Ok(Vec::new(alloc));
-        }
+        Some(
+            MissedLine::Busy
+            | MissedLine::Starved
+            | MissedLine::Rule(_)
+            | MissedLine::Absent { .. },
+        )
+        | None => return Ok(Vec::new(alloc)),
     };
     let mut words = Vec::new(alloc);
     if let Some(spoken) = spoken_words(alloc, required)?.get(place) {

@@ -1,6 +1,6 @@
 //! Lines of a file of expectations, as reports have them.
 
-use expectation_files::{NEVER_BUSY, Requirements, WrittenLine, written_line};
+use expectation_files::{NEVER_BUSY, NEVER_STARVED, Requirements, WrittenLine, written_line};
 use grade_reports::ReportLine;
 use grade_reports::judges::{Case, MissedLine};
 use std::alloc::{AllocError, Global};
@@ -28,7 +28,10 @@ impl CaseLines<'_> {
             Some(MissedLine::Claim(place)) => copy_of(alloc, required.claim_lines().get(place)),
             Some(MissedLine::Rule(place)) => copy_of(alloc, required.rule_lines().get(place)),
             Some(MissedLine::Work(place)) => copy_of(alloc, required.work_lines().get(place)),
-            Some(MissedLine::Busy) => busy_line(alloc, required),
+            Some(MissedLine::Busy) => fixed_line(alloc, required.never_busy(), NEVER_BUSY),
+            Some(MissedLine::Starved) => {
+                fixed_line(alloc, required.never_starved(), NEVER_STARVED)
+            }
             Some(MissedLine::Absent { line, .. }) => {
                 Ok(Some(absent_line(alloc, self.case, line)?))
             }
@@ -46,10 +49,14 @@ pub(crate) fn absent_line(
     ReportLine::of(alloc, written.number, &written.words)
 }
 
-/// The first line that says that no stream ever loops alone; None where none does.
-fn busy_line(alloc: Global, required: &Requirements) -> Result<Option<ReportLine>, AllocError> {
-    match required.never_busy() {
-        Some(number) => Ok(Some(ReportLine::of(alloc, number, NEVER_BUSY)?)),
+/// The line of this number, whose words are always these; None where there is none.
+fn fixed_line(
+    alloc: Global,
+    number: Option<usize>,
+    words: &str,
+) -> Result<Option<ReportLine>, AllocError> {
+    match number {
+        Some(number) => Ok(Some(ReportLine::of(alloc, number, words)?)),
         None => Ok(None),
     }
 }

@@ -69,8 +69,8 @@ What to do: view names who waits for whom. Take locks in one order, or release w
 = starvation starving starve
 Starvation: a stream waits forever while others go on. Its steps come, and each of them is blocked.
 
-What to do: mta_lab explore lock.asm --waiting says who can wait forever, and shows how. A ticket, or a turnstile through
-which all go, lets each come in its turn.
+What to do: mta_lab explore lock.asm --waiting says who can wait forever, and shows how. A file of --expect asks it by the
+line never starved. A ticket, or a turnstile through which all go, lets each come in its turn.
 
 = fairness fair
 Fairness: what is asked of a schedule before one says that a stream waits forever. By words: each stream has its steps, and

@@ -1,11 +1,20 @@
-use Rattle.std.proofs.Common.{◌≡◌, ◌∙◌, ap, sym, subst, refl, inr, Some, List}
+use Rattle.std.proofs.Common.{◌≡◌, ◌∙◌, ap, sym, subst, refl, inr, Option, Some, None, List}
+use Rattle.std.specs.Prelude.{IfSome, IfNone}
 use Rattle.program_searches.specs.Statuses.{unkept_in}
 use Rattle.program_searches.specs.declared.unkept.Unkept.{Unkept}
 use Rattle.seed_outcomes.specs.SpaceEndsTypes.SpaceEnd.{SpaceEnd}
 use Rattle.judgements.specs.Flaws.{ShowNothing, IsWorstFlaw}
 use Rattle.judgements.specs.Shown.{JudgedAs, IsFound, IsLeftOpen}
 use Rattle.judgements.proofs.Shown.{is_complete, is_unshown}
+use Rattle.judgements.proofs.Starved.{starved}
 use Rattle.judgements.proofs.by_schedules.decided_by.Goals as goal
+
+-- what is known of something that may be there, where it is, and where it is not
+at_some : {A : Type 0} (P : A → Type 0) (found : Option A) (x : A) → found ≡ Some x → IfSome found P → P x
+at_some P found x is so = rw is at so
+
+at_none : {A : Type 0} (P : Type 0) (found : Option A) → found ≡ None → IfNone found P → P
+at_none P found is so = rw is at so
 
 left_open : (c : goal.Else-found) (p : JudgedAs) → IsFound p.limits p.image p.required c.args.found.now
     → IsLeftOpen p.limits p.image p.required
@@ -14,6 +23,7 @@ left_open c p search = record {
   search = search;
   flawless = subst ShowNothing c.deref.ensures.value c.in_default.ensures;
   shown = ap (λ (u : Unkept). u.unshown) (sym c.unkept.ensures) ∙ c.in_default-unshown.is;
+  unstarved = at_none _ c.in_ok-starved.starved c.in_default-starved.is c.in_ok-starved.ensures.none;
   not_right = c.if-found.false;
 }
 
@@ -42,6 +52,15 @@ returns-in-Some-unshown-clause-shown c = λ p search.
       unshown = is_unshown found.is_complete found.unshown claim is;
       verdict = refl;
     }
+
+pub returns-in-Some-starved-clause-shown : goal.returns-in-Some-starved-clause-shown
+returns-in-Some-starved-clause-shown c = λ p search.
+    starved p.limits p.image p.required c.args.found.now c.in-Some-starved.starving search
+    (at_some _ c.in_ok-starved.starved c.in-Some-starved.starving c.in-Some-starved.is c.in_ok-starved.ensures.first)
+
+pub returns-in-Some-starved-clause-decided : goal.returns-in-Some-starved-clause-decided
+returns-in-Some-starved-clause-decided c =
+    at_some _ c.in_ok-starved.starved c.in-Some-starved.starving c.in-Some-starved.is c.in_ok-starved.ensures.first
 
 pub returns-clause-shown : goal.returns-clause-shown
 returns-clause-shown c = λ p search. inr (refl, left_open c p search)

@@ -1,4 +1,4 @@
-use Rattle.std.specs.Prelude.{IsTrue, None, List, map, not}
+use Rattle.std.specs.Prelude.{IsTrue, IfSome, None, List, map, not}
 use Rattle.std.specs.List.{position}
 use Rattle.std.proofs.Common.{◌≡◌, sym, ap, ◌∙◌, subst, inl, inr, is_some}
 use Rattle.claims.specs.declared.claim.Claim.{Claim}
@@ -9,10 +9,14 @@ use Rattle.space_ends.specs.ScheduleVerdicts.ShownClaims.{IsRightThroughout}
 use Rattle.space_ends.specs.BrokenClaims.{value_of, HasBrokenEnds}
 use Rattle.space_ends.specs.FirstBroken.{AreBrokenSo}
 use Rattle.space_ends.specs.Loops.{busy_in, loop_of}
+use Rattle.space_ends.specs.ScheduleSpace.Spaces.{count}
 use Rattle.space_ends.specs.Shown.{AreShownSo}
 use Rattle.space_ends.specs.EndsOfSpace.{ends_in, AreEndsOf}
+use Rattle.endless_waits.specs.Waits.{HasExtent, why_not, why_not_in}
+use Rattle.endless_waits.specs.declared.extents.SearchExtent.{SearchExtent}
 use Rattle.program_searches.proofs.Knowing.{known, taken, tells, all_ends, all_if_never_busy, none_if, if_none, none_found}
 use Rattle.program_searches.proofs.Listed.{one_listed, none_listed, either_way, if_not_found, if_none_listed}
+use Rattle.program_searches.proofs.Waiting.{has_extent, so_of_program, nobody_said, nobody_waits}
 use Rattle.program_searches.proofs.searches.explore_on.Goals as goal
 
 pub returns : goal.returns
@@ -28,7 +32,14 @@ returns g c =
     let image = c.in_ok-space.ensures.image in
     let begin = c.in_ok-space.ensures.begin in
     let none : IsTrue c.is_none-is_complete.result → b ≡ None = none_if b _ c.is_none-is_complete.ensures in
-    let found = c.in_ok-is_right.ensures in
+    let found = c.in_ok-are_right.ensures in
+    let unless = c.unless_starved-is_right.ensures in
+    let waits = c.in_ok-waits.waits in
+    let has =
+    subst (λ (x : SearchExtent). HasExtent x v) (sym c.extent_by-extent.ensures)
+    (has_extent asked v b s c.takes_all-is_of_all_worlds.result c.is_none-is_complete.result
+    c.takes_all-is_of_all_worlds.ensures none) in
+    let so = so_of_program c.args.image.now asked.begin.now v waits image begin (c.in_ok-waits.ensures.so has) in
     let judged = c.judges-is_judged.ensures in
     let busy = c.in_ok-busy.ensures in
     let loops = busy_in c.in_ok-ends.ends.items in
@@ -36,7 +47,7 @@ returns g c =
     record {
       image = image;
       begin = begin;
-      all_worlds = c.takes_all.ensures;
+      all_worlds = c.takes_all-is_of_all_worlds.ensures;
       searched = s;
       bound = (if_none b _ c.is_none-is_complete.ensures, none);
       complete = λ on. all_ends asked v b s (none on);
@@ -75,8 +86,19 @@ returns g c =
       rule = c.first_broken.ensures ∙ ap (position (λ r. not (is_kept c.args.image.now r))) c.rules.ensures;
       unshown = c.in_ok-unshown.ensures.unshown;
       shown = c.in_ok-unshown.ensures.shown;
+      waits = record {
+        required = c.in_ok-waits.ensures.asked;
+        why =
+            subst (λ (x : SearchExtent). IfSome waits (λ w. why_not_in w ≡ why_not x (count v))) c.extent_by-extent.ensures
+            c.in_ok-waits.ensures.why;
+        so = so;
+        right = λ yes some.
+            nobody_waits c.args.image.now asked.begin.now waits so
+            (nobody_said required.never_starved waits some (unless.0 yes).1);
+      };
       right = (
-        λ yes.
+        λ said.
+            let yes = (unless.0 said).0 in
             let so = judged.0 (found.judged yes) in
             let right : IsRightOnEachWay v.image v.begin expected claims =
             elim (known asked v b s (none so.0)) [
@@ -94,6 +116,7 @@ returns g c =
               so.1,
               subst (λ i. IsRightThroughout i asked.begin.now expected claims alone) image
                   (subst (λ ts. IsRightThroughout v.image ts expected claims alone) begin here),
+              (unless.0 said).1,
             ),
         λ all.
             let right : IsRightThroughout v.image v.begin expected claims alone =
@@ -103,6 +126,9 @@ returns g c =
             let no_stream =
             none_found required.never_busy c.in_ok-busy.busy busy.unasked
             (λ some. (busy.asked all.0 some (s.worlds (none all.0) (all_if_never_busy asked some))).1 (right.busy some)) in
-            found.only (judged.1 (all.0, all.1, no_claim, no_stream)) (taken asked v b s (none all.0)) right,
+            unless.1 (
+              found.only (judged.1 (all.0, all.1, no_claim, no_stream)) (taken asked v b s (none all.0)) right,
+              all.3,
+            ),
       );
     }

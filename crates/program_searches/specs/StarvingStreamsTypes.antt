@@ -1,0 +1,2 @@
+-- Types of starving_streams that callers name, passed on.
+pub use Rattle.endless_waits.specs.StarvingStreamsTypes.Starving

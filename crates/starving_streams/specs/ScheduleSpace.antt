@@ -1,0 +1,2 @@
+-- Definitions of schedule_space that callers name, passed on.
+pub use Rattle.schedule_space.specs.Spaces
