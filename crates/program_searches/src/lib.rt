@@ -17,6 +17,7 @@ pub use bounds::{SearchBound, USUAL_MEGABYTES};
 pub use endless_waits as endless;
 pub use explored::Explored;
 pub use laws::no_schedule_to_it_is_shorter;
+pub use processor::Step;
 pub use searches::{ProgramSearch, SearchFault, explore_program};
 pub use space_ends as ends_of_space;
 pub use unkept::{Unkept, UnkeptWaits};

@@ -1,7 +1,7 @@
 //! Who can wait forever, in words.
 
 use command_parts::texts::{ProgramNames, RunPieces, TextWriter, wanted_word};
-use processor::Step;
+use program_searches::Step;
 use program_searches::endless::SeenRound;
 use program_searches::endless::waits_of_streams::Wait;
 use schedule_turns::turns_of;
