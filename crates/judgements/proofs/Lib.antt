@@ -7,4 +7,4 @@ mod Shown
 mod WhatWasRun
 mod ReadCases
 mod Pushed
-mod Starved
+mod WhoStarves

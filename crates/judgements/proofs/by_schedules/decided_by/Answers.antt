@@ -6,7 +6,7 @@ use Rattle.seed_outcomes.specs.SpaceEndsTypes.SpaceEnd.{SpaceEnd}
 use Rattle.judgements.specs.Flaws.{ShowNothing, IsWorstFlaw}
 use Rattle.judgements.specs.Shown.{JudgedAs, IsFound, IsLeftOpen}
 use Rattle.judgements.proofs.Shown.{is_complete, is_unshown}
-use Rattle.judgements.proofs.Starved.{starved}
+use Rattle.judgements.proofs.WhoStarves.{starved}
 use Rattle.judgements.proofs.by_schedules.decided_by.Goals as goal
 
 -- what is known of something that may be there, where it is, and where it is not
