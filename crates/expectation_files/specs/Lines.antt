@@ -21,7 +21,7 @@ use Rattle.expectation_files.specs.declared.faults.LineFaultKind.TheVariants as 
 use Rattle.expectation_files.specs.declared.rule_lines.OperationVerb.TheVariants.{Forbid, Require}
 
 -- what a line says: nothing; what the end of a run has to be; a claim about worlds; rules for the program; who does the
--- work in a run; that no stream ever loops alone; that none can wait for ever; how the case counts to which the file belongs
+-- work in a run; that no stream ever loops alone; that none can wait forever; how the case counts to which the file belongs
 pub data Meaning : Type 0 where
   Nothing : Meaning
   End : Expectation → Meaning
@@ -65,7 +65,7 @@ abbrev pub is_starved_alone : List (List ℕ) → Bool
 is_starved_alone (w ∷ []) = bytes_eq w (codes "starved")
 is_starved_alone _ = false
 
--- what stands behind `never`: `busy` alone, `starved` alone, or a claim
+-- what stands after `never`: `busy` alone, `starved` alone, or a claim
 abbrev pub never_said : Names → ImageValue → List (List ℕ) → MeaningSaid
 never_said names i ws =
     if is_busy_alone ws then Ok NeverBusy

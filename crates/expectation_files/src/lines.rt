@@ -41,7 +41,7 @@ pub(crate) enum LineMeaning {
     Work(Vec<WorkRule>),
     /// That no stream ever loops alone.
     NeverBusy,
-    /// That no stream can wait for ever.
+    /// That no stream can wait forever.
     NeverStarved,
     /// How the case counts to which the file belongs.
     Mark(CaseMark),

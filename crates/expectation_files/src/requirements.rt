@@ -19,7 +19,7 @@ use work_rules::WorkRule;
 /// The words of the line that says that no stream ever loops alone.
 pub const NEVER_BUSY: &str = "never busy";
 
-/// The words of the line that says that no stream can wait for ever.
+/// The words of the line that says that no stream can wait forever.
 pub const NEVER_STARVED: &str = "never starved";
 
 /// A line of a file, as it was written.
@@ -148,7 +148,7 @@ impl Requirements {
         self.never_busy
     }
 
-    /// The first line, counted from 1, that says that no stream can wait for ever; None where none does.
+    /// The first line, counted from 1, that says that no stream can wait forever; None where none does.
     pub fn never_starved(&self) -> Option<usize>
         ensures { result ≡ self.now.never_starved }
     {
