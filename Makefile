@@ -37,7 +37,7 @@ help:
 	@echo "                cases, documents, spaces, hostile, refuse, pages, editors, recipes and bench run on them with PROGRAM=draft"
 	@echo "make run        proves and builds mta_sim, and shows a first run (35 processor minutes)"
 	@echo "make run-lab    the same of mta_lab (223 processor minutes)"
-	@echo "make test       proves everything, tries the edits in must-fail/, runs all tests (256 processor minutes from nothing; ANEW=1: nothing that is kept counts)"
+	@echo "make test       proves all that is shipped, tries the edits in must-fail/, runs all tests (256 processor minutes from nothing; ANEW=1: nothing that is kept counts)"
 	@echo "make prove      proves the CRATES and those that they stand on, as make test does (docs/ARCHITECTURE.md has the minutes of each)"
 	@echo "make checks     what make test tests before any proof (a minute)"
 	@echo "make trust      writes out/TRUST.md, the definitions that a reader has to trust (seconds)"
@@ -83,7 +83,7 @@ run-lab:
 try:
 	@tests/try.sh "$(SOURCE)" "$(SCHEDULE)"
 
-# proves everything from nothing, tries the must-fail edits, runs the tests, the programs, the cases, the documents
+# proves all that is shipped from nothing, tries the must-fail edits, runs the tests, the programs, the cases, the documents
 test:
 	@tests/gate.sh
 

@@ -1,6 +1,6 @@
 #!/usr/bin/env bash
-# The gate, make test: what needs no proof first, in seconds; then every proof and the tests in Rattle; then the cases and the
-# documents' commands on the programs that were built, and beside them the must-fail edits, on what these leave of the
+# The gate, make test: what needs no proof first, in seconds; then every proof; then the cases and the documents' commands on
+# the programs that were built, and beside them the tests in Rattle, and the must-fail edits on what these leave of the
 # processors. Where one of the first two parts fails the others are not begun. The last line counts all of it, and
 # out/verdict keeps that line, the commit and the kit.
 set -u
@@ -41,10 +41,12 @@ finish() {
 
 echo "== $(rt version), on $(nproc) processors"
 part "what needs no proof" tests/first_checks.sh || finish
-part "proofs and tests in Rattle" tests/proofs.sh || finish
+part "proofs" tests/proofs.sh || finish
+tests/unproved.sh >out/unproved.log 2>&1 &
 nice -n 19 python3 tests/minutes.py watch python3 tests/edits.py --gate >out/edits.log 2>&1 &
 part "cases on the built program" python3 tests/runner
 part "commands of the documents" tests/documents.sh README.md CONTRIBUTING.md CHANGELOG.md docs/*.md
 wait
+part "tests in Rattle, unproved" cat out/unproved.log
 part "must-fail edits" cat out/edits.log
 finish

@@ -1,8 +1,9 @@
 #!/usr/bin/env bash
-# proofs.sh [CRATE..]: proves every crate from nothing, or those that are named and the ones below them, and runs their
-# tests in Rattle and the programs. It is rt ci in a folder of its own, without the edits: tests/edits.py tries those by
-# the functions that they change, where rt ci would begin with the whole crate's proof once more. What is built comes back
-# into the crates' out/.
+# proofs.sh [CRATE..]: proves every crate that is shipped from nothing, or those that are named and the ones below them, and
+# runs the programs, and the tests in Rattle of crates that are named. It is rt ci in a folder of its own, without the edits:
+# tests/edits.py tries those by the functions that they change, where rt ci would begin with the whole crate's proof once
+# more. What is built comes back into the crates' out/. Crates of tests (below "Tests" in crates.txt) are run unproved by the
+# gate (tests/unproved.sh).
 # One crate is proved on each processor, with 5 GB of free memory for each, or on as many as RT_JOBS in the environment says.
 # The kit by itself would plan on two to three times the memory that a proof takes, so one or two of the lab's crates in 24 GB.
 # A kit that keeps what passed on this machine proves again only what has changed and the crates above it, and its line
@@ -24,7 +25,7 @@ proofs_at_once() {
 if [ $# -gt 0 ]; then
   mapfile -t crates < <(tests/built.sh needed "$@")
 else
-  mapfile -t crates < <(grep -oE '^[a-z][a-z0-9_]*' crates.txt)
+  mapfile -t crates < <(sed '/^# == Tests$/q' crates.txt | grep -oE '^[a-z][a-z0-9_]*')
 fi
 programs=()
 stamps=()

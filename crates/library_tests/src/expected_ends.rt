@@ -82,7 +82,7 @@ const ROWS: [Row; 28] = [
 
 /// A text that has a fault, its line, and what it is.
 /// A text, the line of its fault, the word there, from 0, and what is wrong with it. The program is `QUITTING`.
-const FAULTS: [(&str, usize, usize, LineFaultKind); 66] = [
+const FAULTS: [(&str, usize, usize, LineFaultKind); 68] = [
     (
         "finished\nword 8",
         2,
