@@ -55,7 +55,7 @@ PAGES = {
                  lambda pair: pair["name"] + ", " + pair["schedule"]),
     "play": Page("schedule_page", "play", "play.html.template", ["../base.css", "play.css", "lecture.css"], "GRAPH",
                  lambda graph: graph["name"] + ", you are the scheduler"),
-    "gallery": Page("lab_exercises", "gallery", "gallery.html.template", ["../base.css", "gallery.css"], "GALLERY",
+    "gallery": Page("lab_gallery", "gallery", "gallery.html.template", ["../base.css", "gallery.css"], "GALLERY",
                     lambda gallery: "You are the scheduler"),
 }
 

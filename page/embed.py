@@ -4,6 +4,7 @@ since a program of the kit can't include a file's text. The hashes that a policy
 of several crates have is a constant of the first one, which adds it by a public function. With --check nothing is
 written, and each file of constants that is not up to date is named."""
 
+import difflib
 import pathlib
 import re
 import sys
@@ -81,6 +82,23 @@ def section(kind, place, calls):
     )
 
 
+def common_calls(tables):
+    """The function that adds the texts that the tails of two pages of a crate have in a row, whose calls become one of it:
+    so each is proved once. Nothing where there are not two."""
+    tails = [sections["tail"] for sections in tables.values()]
+    if len(tails) != 2:
+        return ""
+    found = difflib.SequenceMatcher(None, *tails, autojunk=False).find_longest_match()
+    calls = tails[0][found.a:found.a + found.size]
+    for tail, begin in zip(tails, (found.a, found.b), strict=True):
+        tail[begin:begin + found.size] = ["push_common_scripts(page)"]
+    adds = "?;\n".join(f"    {call}" for call in calls)
+    return (
+        "\n/// Adds the scripts that both pages have after their own.\n"
+        + f"fn push_common_scripts(page: &mut String) -> Result<(), AllocError> {{\n{adds}\n}}\n"
+    )
+
+
 def shared_function(name, source):
     """The function that adds a text to pages of other crates too."""
     return (
@@ -103,7 +121,7 @@ def crates_by_file():
 
 def files(crate, pages, users):
     """Each file of constants of a crate's pages with its text; `users` are the crates of each file."""
-    made, taken, functions, shared = {}, set(), "", {}
+    made, taken, tables, shared = {}, set(), {}, {}
     for kind, page in pages.items():
         sections = [[]]
         for source, text in texts(page):
@@ -120,7 +138,10 @@ def files(crate, pages, users):
             sections[-1].append(f"page.push_str({name}::TEXT)")
             if len(of) > 1:
                 shared[name] = shared_function(name, path)
-        functions += "".join(section(kind, *both) for both in zip(SECTIONS, sections, strict=True))
+        tables[kind] = dict(zip(SECTIONS, sections, strict=True))
+    common = common_calls(tables)
+    functions = "".join(section(kind, place, calls) for kind, sections in tables.items()
+                        for place, calls in sections.items())
     parts = (
         "//! The texts of a page. Made by `page/embed.py` of the files in `page/`.\n\n"
         + "".join(f"mod {name};\n" for name in sorted(made))
@@ -129,6 +150,7 @@ def files(crate, pages, users):
         + "use std::alloc::AllocError;\n"
         + "".join(shared[name] for name in sorted(shared))
         + functions
+        + common
     )
     return {"parts.rt": parts} | {f"parts/{name}.rt": text for name, text in made.items()}
 

@@ -2,9 +2,8 @@
 """How plain documents for people are: words that the glossary of plain words replaces, the length of sentences, and the
 reading ease by Flesch.
 
-  plain_words.py            says what is not plain in the documents that are held to it, and in the code of crates that are
+  plain_words.py            says what is not plain in the documents that are held to it, and in the code of all crates
   plain_words.py FILE..     says it of these files, and their reading ease
-  plain_words.py --clean    names the crates of the lab whose code could be held to it, and is not yet
 
 Of man pages, of the help texts of mta_lab and of advice on exercises only the words are looked for; of the crates'
 README.md, of tasks and of hints all. Of code some of the words are: in comments that document, and in the names of
@@ -32,30 +31,6 @@ HELD = ("README.md", "CONTRIBUTING.md", "docs/TUTORIAL.md", "docs/CHEAT_SHEET.md
 HELD_TOO = ("crates/*/README.md", "exercises/*/task.md", "exercises/*/hints.md")
 WORDS_ALONE = ("share/man/man1/*.1", "crates/lab_command_line/src/help.rt", "crates/lab_command_line/src/*arguments.rt",
                "exercises/*/advice")
-# the crates of the lab whose code has none of the words of OF_CODE_TOO, and rooms that are built without them: of these some
-# may not be there yet. A crate that gets rid of the words is added (--clean).
-HELD_CODE = (
-    # what runs do
-    "waiting", "end_kinds", "step_views", "run_findings", "whole_runs", "value_origins", "run_rounds",
-    # who waits, and every schedule
-    "stream_waits", "same_futures", "dead_registers", "agreeing_ends", "terminal_components", "busy_streams",
-    "changed_words", "first_findings", "schedule_turns", "fair_rounds", "reachable_places", "local_steps",
-    "schedule_space", "starving_streams",
-    # what is expected, and how programs end
-    "expectations", "end_states", "space_ends", "expectation_messages", "work_rules", "seed_work", "claims",
-    "program_rules", "schedule_verdicts",
-    # what is said of source texts, and edits of them
-    "source_edits", "source_fixes", "plain_text", "editor_texts", "source_places", "source_comments", "case_cells",
-    "source_slips", "source_checks",
-    # what the lab shows
-    "image_machines", "space_graphs", "program_pages", "lab_json", "lab_ends", "replay_page", "schedule_page",
-    "named_session", "value_reasons", "editor_wire",
-    # its commands, and what decides for them
-    "lab_command_line", "output_files", "program_searches", "endless_waits", "judgements", "lab_views", "lab_pages",
-    "lab_surveys", "lab_adapter", "lab_language", "class_results", "end_goals", "seed_outcomes", "exercise_advice",
-    "named_files", "asked_programs", "search_texts", "printed_lines", "grade_reports", "result_lines", "submission_rows",
-    "lab_requests", "lab_explorer", "lab_grades",
-)
 EASE, LONGEST = 60, 30
 # a word that readers stumble over, and what to write: those that code has not either, and those of documents alone
 OF_CODE_TOO = (
@@ -179,14 +154,9 @@ def code_at_fault(crate):
                     yield f"{path}:{number}: the name '{name}' has '{fault[0]}': write {fault[1]}"
 
 
-def clean_crates():
-    """The crates of the lab whose code is plain, and that are not held to it."""
-    uses = {name: used for _, listed in crates.parts() for name, used in listed}
-    core = crates.needed_by("mta_sim", uses)
-    for heading, listed in crates.parts():
-        for name, _ in listed if heading != "Tests" else ():
-            if name not in core and name not in HELD_CODE and not any(code_at_fault(name)):
-                yield name
+def all_crates():
+    """Each crate that crates.txt lists."""
+    return (name for _, listed in crates.parts() for name, _ in listed)
 
 
 def faults_of(path):
@@ -202,9 +172,6 @@ def faults_of(path):
 
 
 def main():
-    if sys.argv[1:] == ["--clean"]:
-        print(*clean_crates(), sep="\n")
-        return
     for path in sys.argv[1:] or (*HELD, *(path for pattern in HELD_TOO for path in named(pattern))):
         for fault in faults_of(path):
             print(fault)
@@ -213,7 +180,7 @@ def main():
     for path in () if sys.argv[1:] else [path for pattern in WORDS_ALONE for path in named(pattern)]:
         for fault in words_at_fault(path, words_of_file(path)):
             print(fault)
-    for crate in () if sys.argv[1:] else HELD_CODE:
+    for crate in () if sys.argv[1:] else all_crates():
         for fault in code_at_fault(crate):
             print(fault)
 

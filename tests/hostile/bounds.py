@@ -165,6 +165,17 @@ def of_messages(tally, folder):
         tally.check(f"{name} takes {ended.seconds:.1f} s", ended.seconds <= 6)
 
 
+def of_names(tally, folder):
+    """Ten thousand names of data that no word has, beside the most names that there are, all as long as names may be."""
+    known = "".join(f".data 0 ; {'n' * 27}{at:05d}\n" for at in range(NAMES))
+    source = write(folder, "named.asm", b" .entry 0\n QUIT\n" + known.encode())
+    lines = write(folder, "named.expect", "".join(f"word {'m' * 27}{at:05d} 0\n" for at in range(SHOWN)).encode())
+    ended = lab("check", lines, "--program", source)
+    tally.runs += 1
+    tally.check(f"{SHOWN} unknown names: {ended}", ended.status == 1 and ended.err.count(b": error: ") == SHOWN)
+    tally.check(f"{SHOWN} unknown names take {ended.seconds:.1f} s", ended.seconds <= 6)
+
+
 def of_warnings(tally, folder):
     """A million lines with warnings: as many are made as are shown. Comments that are not ASCII have one together."""
     comments = "; \u00FC\n".encode()
@@ -218,6 +229,7 @@ def part(_, folder):
     of_thorough(tally, folder)
     of_time(tally, folder)
     of_messages(tally, folder)
+    of_names(tally, folder)
     of_warnings(tally, folder)
     of_labels(tally, folder)
     of_files(tally, folder)

@@ -13,6 +13,8 @@ from program import EXAMPLES, LAB, ROOT, Tally, write
 
 RIGHT = b" .entry 0\n QUIT\n .data 1\n"
 SECRET = b" .entry 0\n QUIT\n .data 2\n"
+# a file of the system that looks like an empty one, and makes root wait for its bytes; the verdicts on one by a link to it
+KERNEL, EMPTY = "/proc/kmsg", {b"not read", b"source fault"}
 # how often one name stands on a line, and how many lines are tried of each kind
 TIMES, LINES = 100, 4
 # after so many seconds a call hangs
@@ -96,6 +98,11 @@ def standing(tally, folder):
     found = verdicts(["grade", "--expect", expect, "--seeds", "1", *paths])
     tally.runs += 1
     tally.check(f"what is no regular file: {found}", found is not None and found[0] == [b"not read"] * len(paths))
+    kernel = os.path.join(folder, "kernel.asm")
+    os.symlink(KERNEL, kernel)
+    found = verdicts(["grade", "--expect", expect, "--seeds", "1", kernel])
+    tally.runs += 1
+    tally.check(f"a file that waits for its bytes: {found}", found is not None and set(found[0]) <= EMPTY)
 
 
 def said(words, folder):
@@ -151,6 +158,7 @@ def part(_, folder):
     swapped(tally, folder, "fifo", "", [], not_read)
     swapped(tally, folder, "fifo", "", ["--no-links"], not_read)
     swapped(tally, folder, "device", "/dev/zero", [], not_read)
+    swapped(tally, folder, "wait", KERNEL, [], not_read | EMPTY)
     swapped(tally, folder, "link", secret, ["--no-links"], not_read)
     swapped(tally, folder, "link", secret, [], not_read | {b"wrong"})
     return tally

@@ -18,8 +18,11 @@ STATUSES = {0, 1, 3, 4, 5}
 NO_MEMORY = b"mta_lab: no memory\n"
 # the bytes of a small stack
 SMALL_STACK = 65_536
-# what stands in the answer of a search that lacked memory on its way: nothing is said of all schedules
-NOT_ALL = re.compile(rb"some schedules(?: that begin so)?: |\"complete\":false|\t(?:not decided|wrong)\tsome schedules, |\twrong\tschedule ")
+# what stands in the answer of a search that lacked memory on its way: nothing is said of all schedules, or of who can wait
+# forever
+NOT_ALL = re.compile(rb"some schedules(?: that begin so)?: |\"complete\":false|\t(?:not decided|wrong)\tsome schedules, |\twrong\tschedule |a search of all states came to a bound")
+# the formats of `grade` that are printed at the end; the others have a row as soon as it is known
+AT_THE_END = ("junit", "gradescope")
 # how many damaged images and texts are tried
 DAMAGED, TEXTS = 400, 400
 LARGEST = 33_554_432
@@ -69,7 +72,7 @@ def commands(folder):
         ["explore", racing, "--from", begin, "--expect", claims],
         ["play", racing, "--expect", expected, "--out", os.path.join(folder, "played.html")],
         ["grade", "--explore", "--expect", expected, racing],
-        ["grade", "--all", "--format", "junit", "--expect", expected, "--seeds", "5", racing],
+        *(["grade", "--all", "--format", form, "--expect", expected, "--seeds", "5", racing] for form in AT_THE_END),
         ["grade", "--json", "--expect", claims, "--seeds", "5", racing],
         ["grade", "--given", write(folder, "given.data", b" .data 5\n .data 0\n"), "--expect", expected, "--seeds", "5", racing],
         ["grade", "--expect", expected, "--seeds", "5", *sorted(os.path.join(GRADED, it) for it in os.listdir(GRADED))],
@@ -77,8 +80,10 @@ def commands(folder):
 
 
 def is_begun(words, whole, out):
-    """Whether nothing was printed, or of `grade` whole lines of what it prints with ample memory, the first ones."""
-    return out == b"" or words[0] == "grade" and whole.startswith(out) and out.endswith(b"\n")
+    """Whether nothing was printed, or of `grade` in a format of rows whole lines of what it prints with ample memory, the first
+    ones (docs/LAB_REFERENCE.md, "Judging a class")."""
+    has_rows = words[0] == "grade" and not any(form in words for form in AT_THE_END)
+    return out == b"" or has_rows and whole.startswith(out) and out.endswith(b"\n")
 
 
 def refuse_each(library, folder, words):

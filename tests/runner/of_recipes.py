@@ -272,10 +272,11 @@ def gradescope(folder, files, program=tool.LAB):
     os.makedirs(os.path.join(base, "source"), exist_ok=True)
     shutil.copytree(os.path.join(folder, "cases"), os.path.join(base, "source/cases"), dirs_exist_ok=True)
     shutil.copy(program, os.path.join(base, "source/mta_lab"))
+    os.chmod(os.path.join(base, "source/mta_lab"), 0o600)  # (as where it was zipped by a system without such bits)
     shutil.copy(os.path.join(EXAMPLES, "run_autograder"), base)
     for name, text in files.items():
         made(base, f"submission/{name}", text.encode())
-    ended = shell(folder, os.path.join(base, "run_autograder"), AUTOGRADER=base)
+    ended = shell(folder, os.path.join(base, "run_autograder"), AUTOGRADER=base, PATH=os.environ["PATH"])
     results = tool.read(os.path.join(base, "results/results.json"))
     return ended.returncode, results and json.loads(results)
 

@@ -1,10 +1,12 @@
 #!/usr/bin/env python3
 """Random programs with loops: who can wait forever by `mta_lab explore --waiting`, beside a plain search of rounds by a
 machine of the tests' own (lassos.py). Each stream that is shown has to be one that the search finds, and each that the search
-finds has to be shown. With the line `never starved` the same streams are shown, and a program is right only if there is none. Each schedule and round that is shown is replayed: the round has to come back, to be fair, and to
-leave the stream waiting, and no schedule to its world may be shorter. Each is run by `mta_sim` too, the round once and twice. And
-`view --round` has to mark as a round just those last steps of a kept schedule that are one by this machine. A
-difference is printed with its seed and its program. Needs Python 3.
+finds has to be shown. With the line `never starved` the same streams are shown, and a program is right only if there is none.
+Without both they are shown if the program has an endless loop, which is called a livelock just if no word changes in it. Each
+schedule and round that is shown is replayed: the round has to come back, to be fair, and to leave the stream waiting, and no
+schedule to its world may be shorter. Each is run by `mta_sim` too, the round once and twice. And `view --round` has to mark as a
+round just those last steps of a kept schedule that are one by this machine. A difference is printed with its seed and its
+program. Needs Python 3.
 
   starving [--programs N] [--first SEED] [--jobs N] [--program PATH] [--machine PATH]
 
@@ -21,6 +23,7 @@ import concurrent.futures
 import json
 import os
 import random
+import re
 import subprocess
 import tempfile
 
@@ -40,6 +43,9 @@ PATIENCE, SHOWN, LEAST, MOST, TRIES = 60, 20, 10, 150, 400
 # the exit status of a refused call, and of each kind of end
 REFUSED = 1
 OF_ENDS = {"finished": search.DONE, "stopped": search.UNEXPECTED, "deadlock": search.DEADLOCK}
+# what is said of endless loops
+LIVELOCK, NOBODY = "livelock: no step changes a word any more", "fair by words: nobody can be blocked forever"
+WAITS = re.compile(r"fair by words: (\d+\.\d+) can wait forever ")
 
 
 def looping(chance):
@@ -112,6 +118,24 @@ class Case:
             yield from self.run_twice(asked, folder, path, name)
             yield from self.not_as_marked(asked, folder, path, it)
         yield from self.not_as_required(asked, folder, path)
+        yield from self.not_as_loops(asked, path)
+
+    def not_as_loops(self, asked, path):
+        """What is said of the program's endless loops that is not so, where nothing is asked."""
+        loops = self.space.spinning()
+        still = [len({world.memory for world in found}) == 1 for found in loops]
+        for words in ((), ("--plain",)):
+            ended = call(asked.program, "explore", path, *words)
+            lines = ended.stdout.decode().splitlines()
+            spinning = sum(" spinning in " in line for line in lines)
+            livelocks = sum(line.strip() == LIVELOCK for line in lines)
+            if bool(livelocks) != any(still) or (livelocks == spinning) != all(still):
+                yield f"{livelocks} livelocks in {spinning} lines, and of the sets {still}"
+            shown = {found[1] for found in map(WAITS.match, lines) if found}
+            if shown != (self.wanted if loops else set()) or (NOBODY in lines) != (bool(loops) and not self.wanted):
+                yield f"without an option {sorted(shown)} can wait forever, and by the search {sorted(self.wanted)}"
+            if ended.returncode != self.status(search.DONE):
+                yield f"without an option: status {ended.returncode}, and not {self.status(search.DONE)}"
 
     def not_as_required(self, asked, folder, path):
         """What is said of the program that is not so, where it is required that nobody can wait forever."""

@@ -91,17 +91,17 @@ impl Connection {
 
     /// Sends events in their order.
     #[tactic(auto, using(crate::proofs::Sending::events_then_events, crate::proofs::Sending::nothing_sent))]
-    pub fn tell_all(&mut self, alloc: Global, events: &Events) -> Result<(), AllocError>
+    pub fn report_all(&mut self, alloc: Global, events: &Events) -> Result<(), AllocError>
         ensures none { SendsNoResponse self.old.outbox self.new.outbox }
     {
         for event in &events.list {
-            self.tell(alloc, event.name, &event.body)?;
+            self.send_event(alloc, event.name, &event.body)?;
         }
         Ok(())
     }
 
     /// Sends an event.
-    pub fn tell(&mut self, alloc: Global, name: &str, body: &Json) -> Result<(), AllocError>
+    pub fn send_event(&mut self, alloc: Global, name: &str, body: &Json) -> Result<(), AllocError>
         ensures none { SendsNoResponse self.old.outbox self.new.outbox }
     {
         let mut members = self.begin(alloc);
@@ -154,7 +154,7 @@ pub fn say_launched(
 {
     let empty = Json::new(alloc);
     connection.respond(alloc, request, "launch", &empty)?;
-    connection.tell(alloc, "initialized", &empty)
+    connection.send_event(alloc, "initialized", &empty)
 }
 
 /// The text of a response, with what stands after its head.

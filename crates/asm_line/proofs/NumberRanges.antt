@@ -13,7 +13,7 @@ use Rattle.asm_line.specs.Text.{is_name}
 use Rattle.asm_line.specs.Faults.{map_ok, ◌>>=◌}
 use Rattle.asm_line.specs.Numbers.{within, number_within, at_least_one, count_within}
 use Rattle.asm_line.specs.Numbers.{signed_within, has_minus}
-use Rattle.asm_line.specs.Operands.{number_behind_letter, is_register, register, is_target, target, Places}
+use Rattle.asm_line.specs.Operands.{number_after_letter, is_register, register, is_target, target, Places}
 use Rattle.asm_line.specs.Operands.{label_value, value_within}
 use Rattle.asm_line.specs.Operands.{distance, offset, displacement, source_of, source_number}
 use Rattle.asm_line.specs.Parts.{immediate}
@@ -46,9 +46,9 @@ count_within_range most text =
 
 pub register_range : (text : List ℕ) → IfOk (register text) (λ n. n < 32)
 unfolding register
-register_range text = ok_if (is_register text) (number_behind_letter text) fault.Operand (λ n. n < 32) (λ e.
+register_range text = ok_if (is_register text) (number_after_letter text) fault.Operand (λ n. n < 32) (λ e.
     let rest = and_right (are_digits 10 (drop 1 text)) _ (and_right (slice_index text 0 == 114) _ e) in
-    below_bound (number_behind_letter text) 32 (and_left (nat_lt (number_behind_letter text) 32) _ rest))
+    below_bound (number_after_letter text) 32 (and_left (nat_lt (number_after_letter text) 32) _ rest))
 
 pub target_range : (text : List ℕ) → IfOk (target text) (λ n. n < 8)
 unfolding target

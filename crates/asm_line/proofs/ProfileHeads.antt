@@ -10,7 +10,7 @@ use Rattle.insn_word.specs.declared.profiles.Profile.{Profile}
 use Rattle.asm_line.specs.Text.{is_blank, head, operands}
 use Rattle.asm_line.specs.Directives.{profile_read}
 use Rattle.asm_line.specs.Lines.{Line}
-use Rattle.asm_line.specs.Profiles.{profile_or_one, profile_told}
+use Rattle.asm_line.specs.Profiles.{profile_or_one, profile_named}
 
 byte : (text : List ℕ) (k : ℕ) → bytes_eq (head text) (codes ".profile") ≡ true → k < 8
     → slice_index text k ≡ slice_index (codes ".profile") k
@@ -25,8 +25,8 @@ second : (text : List ℕ) → slice_index (drop 1 text) 0 ≡ slice_index text 
 second [] = refl
 second (x ∷ xs) = refl
 
-not_told : (l : Line) → (bytes_eq (head l.statement) (codes ".profile") ≡ true → ⊥) → None ≡ profile_told l
-unfolding profile_told
+not_told : (l : Line) → (bytes_eq (head l.statement) (codes ".profile") ≡ true → ⊥) → None ≡ profile_named l
+unfolding profile_named
 not_told l h = by_test (bytes_eq (head l.statement) (codes ".profile")) refl
   where
     told : Option Profile
@@ -36,12 +36,12 @@ not_told l h = by_test (bytes_eq (head l.statement) (codes ".profile")) refl
     by_test true e = absurd (h e)
     by_test false e = refl
 
-pub other_first : (l : Line) → (slice_index l.statement 0 == 46) ≡ false → None ≡ profile_told l
+pub other_first : (l : Line) → (slice_index l.statement 0 == 46) ≡ false → None ≡ profile_named l
 other_first l e = not_told l (λ h.
     let first : slice_index l.statement 0 ≡ 46 = byte l.statement 0 h (omega arith) in
     true≢false (rw first at e))
 
-pub other_second : (l : Line) → (slice_index (drop 1 l.statement) 0 == 112) ≡ false → None ≡ profile_told l
+pub other_second : (l : Line) → (slice_index (drop 1 l.statement) 0 == 112) ≡ false → None ≡ profile_named l
 other_second l e = not_told l (λ h.
     let next : slice_index (drop 1 l.statement) 0 ≡ 112 =
     second l.statement ∙ byte l.statement 1 h (omega arith) in

@@ -17,18 +17,18 @@ use Rattle.asm_line.specs.declared.place.Place.{Place}
 -- Registers.
 
 -- the number behind the letter
-abbrev pub number_behind_letter : List ℕ → ℕ
-number_behind_letter text = digits_value 10 (drop 1 text)
+abbrev pub number_after_letter : List ℕ → ℕ
+number_after_letter text = digits_value 10 (drop 1 text)
 
 -- r0 to r31, without leading zeros
 abbrev pub is_register : List ℕ → Bool
 is_register text =
-    slice_index text 0 == 114 && (are_digits 10 (drop 1 text) && (nat_lt (number_behind_letter text) 32
+    slice_index text 0 == 114 && (are_digits 10 (drop 1 text) && (nat_lt (number_after_letter text) 32
     && (length text == 2 || (length text == 3 && nat_lt 48 (slice_index text 1)))))
 
 -- the number of the register that an operand names
 unfoldable pub register : List ℕ → Result ℕ Fault
-register text = if is_register text then Ok (number_behind_letter text) else Err fault.Operand
+register text = if is_register text then Ok (number_after_letter text) else Err fault.Operand
 
 -- t0 to t7
 abbrev pub is_target : List ℕ → Bool

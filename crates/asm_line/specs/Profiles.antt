@@ -15,12 +15,12 @@ profile_or_one (Err e) = profile.One
 
 -- what a line says of the profile, if its head is .profile: the profile of its operand, or Profile 1 where that names
 -- none
-unfoldable pub profile_told : Line → Option Profile
-profile_told l =
+unfoldable pub profile_named : Line → Option Profile
+profile_named l =
     if bytes_eq (head l.statement) (codes ".profile") then Some (profile_or_one (profile_read (operands l.statement)))
     else None
 
 -- The first line that says one decides, wherever it stands in the text; where none does it is Profile 1.
 abbrev pub profile_of : List Line → Profile
 profile_of [] = profile.One
-profile_of (l ∷ ls) = unwrap_or (profile_told l) (profile_of ls)
+profile_of (l ∷ ls) = unwrap_or (profile_named l) (profile_of ls)

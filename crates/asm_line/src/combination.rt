@@ -86,7 +86,7 @@ pub(crate) fn double(
     }
 }
 
-/// A memory operation and the one behind it, an arithmetic or a control one.
+/// A memory operation and the one after it, an arithmetic or a control one.
 fn memory_and(
     labels: &Labels,
     here: usize,
@@ -104,7 +104,7 @@ fn memory_and(
     }
 }
 
-/// An arithmetic operation and the one behind it, a control one.
+/// An arithmetic operation and the one after it, a control one.
 fn arithmetic_and(
     labels: &Labels,
     here: usize,
@@ -154,7 +154,7 @@ pub(crate) fn triple(
     }
 }
 
-/// A memory operation and the two behind it, an arithmetic and a control one.
+/// A memory operation and the two after it, an arithmetic and a control one.
 fn memory_and_two(
     labels: &Labels,
     here: usize,
@@ -176,7 +176,7 @@ fn memory_and_two(
     }
 }
 
-/// A memory and an arithmetic operation and the one behind them, a control one.
+/// A memory and an arithmetic operation and the one after them, a control one.
 fn both_and(
     labels: &Labels,
     here: usize,

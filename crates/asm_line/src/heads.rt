@@ -141,7 +141,7 @@ fn has_directive(profile: Profile, directive: Directive) -> bool
     }
 }
 
-/// The access that stands behind an operation's dot, if there is one.
+/// The access that stands after an operation's dot, if there is one.
 #[tactic(auto, unfolding(crate::specs::Heads::access_named))]
 fn access_named(op: MemoryOp, suffix: Option<&[u8]>) -> Option<Access>
     ensures { result ≡ access_named op (option_copied suffix.entry) }
@@ -155,7 +155,7 @@ fn access_named(op: MemoryOp, suffix: Option<&[u8]>) -> Option<Access>
     letter_access(letter)
 }
 
-/// The access of the letter behind the dot of its suffix.
+/// The access of the letter after the dot of its suffix.
 fn letter_access(letter: &[u8]) -> Option<Access>
     ensures { result ≡ letter_access letter.now }
 {

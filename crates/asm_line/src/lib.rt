@@ -27,4 +27,4 @@ pub use labels::Labels;
 pub use lines::{SourceLine, cut_line, is_word, next_line, next_source_line, read_line};
 pub use operation::Directive;
 pub use place::Place;
-pub use profiles::profile_told;
+pub use profiles::profile_named;

@@ -127,7 +127,7 @@ pub fn is_word(statement: &[u8]) -> bool
     head == names::directive(Directive::Word).as_bytes()
 }
 
-/// What line `number` (from 0) adds, behind so many program words (`here`), or its least fault. The profile and the
+/// What line `number` (from 0) adds, after so many program words (`here`), or its least fault. The profile and the
 /// labels are those of the whole text, in which so many lines are `words`.
 pub fn read_line(
     profile: Profile,

@@ -36,7 +36,7 @@ pub fn memory(op: MemoryOp) -> &'static str
     }
 }
 
-/// What stands behind the name of a memory operation with this access.
+/// What stands after the name of a memory operation with this access.
 pub fn access(access: Access) -> &'static str
     ensures name { result.now ≡ access_suffix access }
     ensures short { length result.now ≤ 2 }
@@ -73,7 +73,7 @@ pub fn arithmetic(op: ArithmeticOp) -> &'static str
     }
 }
 
-/// What stands behind the name of an arithmetic operation that makes a condition code, or makes none.
+/// What stands after the name of an arithmetic operation that makes a condition code, or makes none.
 pub fn test(test: bool) -> &'static str
     ensures name { result.now ≡ test_suffix test }
     ensures short { length result.now ≤ 2 }

@@ -77,7 +77,7 @@ pub(crate) fn positive_within(most: u8, text: &[u8]) -> Result<i8, Fault>
     Ok(positive(number as u8))
 }
 
-/// A number from `-least` to 0, of the text behind its `-`.
+/// A number from `-least` to 0, of the text after its `-`.
 fn negative_within(least: u8, text: &[u8]) -> Result<i8, Fault>
     requires { least ≤ 128 }
     ensures { result ≡ map_ok (λ n. neg_ℤ (pos n)) (number_within least text.now) }

@@ -80,7 +80,7 @@ pub(crate) fn offset(labels: &Labels, here: usize, text: &[u8]) -> Result<i8, Fa
     }
 }
 
-/// How many words `value` is behind the place after `here`.
+/// How many words `value` lies beyond the place after `here`.
 #[tactic(auto, unfolding(crate::specs::Operands::distance))]
 fn distance(here: usize, value: usize) -> Result<i8, Fault>
     ensures { result ≡ distance here value }
@@ -95,7 +95,7 @@ fn distance(here: usize, value: usize) -> Result<i8, Fault>
     Err(Fault::Range)
 }
 
-/// How many words behind the pointer, -32 to 31.
+/// How many words after the pointer, -32 to 31.
 pub(crate) fn displacement(text: &[u8]) -> Result<i8, Fault>
     ensures { result ≡ displacement text.now }
 {

@@ -1,7 +1,7 @@
 //! The profile that a line says.
 
 ghost use Rattle.std.specs.Prelude.{◌≡◌};
-ghost use Rattle.asm_line.specs.Profiles.{profile_or_one, profile_told};
+ghost use Rattle.asm_line.specs.Profiles.{profile_or_one, profile_named};
 ghost use Rattle.asm_line.specs.SourceLines.{line_seen};
 
 use crate::arguments::read_arguments;
@@ -15,9 +15,9 @@ use insn_word::Profile;
 
 /// The profile that a line says, if its statement is a `.profile`: that of its number, or Profile 1 where it has a
 /// fault. The first line of a text that says one decides its profile ("Profile 2", docs/WRITING_PROGRAMS.md).
-#[tactic(auto, unfolding(crate::specs::Profiles::profile_told))]
-pub fn profile_told(line: &SourceLine) -> Option<Profile>
-    ensures { result ≡ profile_told (line_seen line.now) }
+#[tactic(auto, unfolding(crate::specs::Profiles::profile_named))]
+pub fn profile_named(line: &SourceLine) -> Option<Profile>
+    ensures { result ≡ profile_named (line_seen line.now) }
 {
     // Most lines are told apart by their first byte or two.
     if !begins(line.statement, b'.') {

@@ -19,7 +19,7 @@ use Rattle.asm_line.specs.Operands.{Places}
 use Rattle.asm_line.specs.Numbers.{count_within, number_within}
 use Rattle.asm_line.specs.Directives.{item_of_directive, cells, data_cell, fill, word_number, tags_number}
 use Rattle.asm_line.specs.Lines.{Line, line_item, statement_item, directive_item, label_fault, is_word}
-use Rattle.asm_line.specs.Profiles.{profile_of, profile_told}
+use Rattle.asm_line.specs.Profiles.{profile_of, profile_named}
 use Rattle.asm_line.specs.Lines.{word_count, count_words, place, further, stands, stands_earlier}
 use Rattle.asm_line.specs.declared.fault.Fault.TheVariants as fault
 use Rattle.asm_line.specs.declared.item.Item.{Item}
@@ -232,18 +232,18 @@ places_same (b ∷ bs) after l m name labels counts =
     ap (λ o. cond (stands name b.label) (Some (record { line = 0; value = 0 })) (option_map (further b) o))
     (places_same bs after l m name labels counts)
 
-data_no_profile : (label : Option (List ℕ)) (v : List ℕ) → profile_told (data_line label v) ≡ None
-unfolding profile_told head
+data_no_profile : (label : Option (List ℕ)) (v : List ℕ) → profile_named (data_line label v) ≡ None
+unfolding profile_named head
 data_no_profile label v = refl
 
-fill_no_profile : (label : Option (List ℕ)) (v : List ℕ) → profile_told (fill_line label v) ≡ None
-unfolding profile_told head
+fill_no_profile : (label : Option (List ℕ)) (v : List ℕ) → profile_named (fill_line label v) ≡ None
+unfolding profile_named head
 fill_no_profile label v = refl
 
-profile_same : (before after : List Line) (l m : Line) → profile_told l ≡ profile_told m
+profile_same : (before after : List Line) (l m : Line) → profile_named l ≡ profile_named m
     → profile_of (before ++ l ∷ after) ≡ profile_of (before ++ m ∷ after)
 profile_same [] after l m same = ap (λ o. unwrap_or o (profile_of after)) same
-profile_same (b ∷ bs) after l m same = ap (λ p. unwrap_or (profile_told b) p) (profile_same bs after l m same)
+profile_same (b ∷ bs) after l m same = ap (λ p. unwrap_or (profile_named b) p) (profile_same bs after l m same)
 
 pub data_lines : DataLinesAreFills
 unfolding meaning_of_lines

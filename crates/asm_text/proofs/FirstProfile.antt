@@ -10,7 +10,7 @@ use Rattle.image_file.specs.ImageValue.{ImageValue}
 use Rattle.asm_line.specs.Text.{head, operands}
 use Rattle.asm_line.specs.Directives.{profile_read}
 use Rattle.asm_line.specs.Lines.{Line, lines}
-use Rattle.asm_line.specs.Profiles.{profile_or_one, profile_told, profile_of}
+use Rattle.asm_line.specs.Profiles.{profile_or_one, profile_named, profile_of}
 use Rattle.asm_line.specs.declared.fault.Fault.{Fault}
 use Rattle.asm_text.specs.Drafts.{image_of_draft}
 use Rattle.asm_text.specs.Sources.{Means}
@@ -20,12 +20,12 @@ use Rattle.asm_text.proofs.LineFaults.{lines_add_up}
 -- What a line says.
 
 told_by : (l : Line) → bytes_eq (head l.statement) (codes ".profile") ≡ true
-    → profile_told l ≡ Some (profile_or_one (profile_read (operands l.statement)))
-unfolding profile_told
+    → profile_named l ≡ Some (profile_or_one (profile_read (operands l.statement)))
+unfolding profile_named
 told_by l e = rw e refl
 
-told_none : (l : Line) → bytes_eq (head l.statement) (codes ".profile") ≡ false → profile_told l ≡ None
-unfolding profile_told
+told_none : (l : Line) → bytes_eq (head l.statement) (codes ".profile") ≡ false → profile_named l ≡ None
+unfolding profile_named
 told_none l e = rw e refl
 
 not_two : One ≡ Two → ⊥

@@ -5,7 +5,7 @@ use Rattle.std.specs.Option.{option_map, option_or}
 use Rattle.asm_line.specs.Lines.{Line, place, stands, word_count, count_words, is_word}
 use Rattle.insn_word.specs.declared.profiles.Profile.{Profile}
 use Rattle.insn_word.specs.declared.profiles.Profile.TheVariants.{One}
-use Rattle.asm_line.specs.Profiles.{profile_of, profile_told}
+use Rattle.asm_line.specs.Profiles.{profile_of, profile_named}
 use Rattle.asm_line.specs.Labels.{place_told}
 use Rattle.asm_line.specs.declared.place.Place.{Place}
 
@@ -101,10 +101,10 @@ or_rest None told rest = refl
 or_rest (Some p) told rest = refl
 
 pub profile_taken : (l : Line) (ls these all : List Line) (before now : Option Profile) → these ≡ l ∷ ls
-    → now ≡ option_or before (profile_told l) → unwrap_or before (profile_of these) ≡ profile_of all
+    → now ≡ option_or before (profile_named l) → unwrap_or before (profile_of these) ≡ profile_of all
     → unwrap_or now (profile_of ls) ≡ profile_of all
 profile_taken l ls these all before now first is whole =
-    ap (λ o. unwrap_or o (profile_of ls)) is ∙ or_rest before (profile_told l) (profile_of ls)
+    ap (λ o. unwrap_or o (profile_of ls)) is ∙ or_rest before (profile_named l) (profile_of ls)
     ∙ ap (λ xs. unwrap_or before (profile_of xs)) (sym first) ∙ whole
 
 pub profile_end : (these all : List Line) (before : Option Profile) → these ≡ []

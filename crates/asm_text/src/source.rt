@@ -4,7 +4,7 @@ ghost use Rattle.std.specs.Prelude.{◌≡◌, ◌≢◌, ◌+◌, ◌≤◌, na
 ghost use Rattle.std.specs.List.{position, count_by};
 ghost use Rattle.asm_line.specs.Lines.{lines, place, count_words};
 ghost use Rattle.asm_line.specs.Labels.{places_of};
-ghost use Rattle.asm_line.specs.Profiles.{profile_of, profile_told};
+ghost use Rattle.asm_line.specs.Profiles.{profile_of, profile_named};
 ghost use Rattle.asm_line.specs.SourceLines.{line_seen};
 ghost use Rattle.std.specs.Option.{option_or};
 ghost use Rattle.asm_line.specs.declared.fault.Fault.TheVariants.{NoMemory};
@@ -16,7 +16,7 @@ ghost use Rattle.asm_text.specs.Sources.{with_line, with_lines, not_ascii, Means
 use crate::draft::Draft;
 use crate::fault::AsmFault;
 use asm_line::{
-    Fault, Labels, Place, SourceLine, is_word, next_source_line, profile_told, read_line,
+    Fault, Labels, Place, SourceLine, is_word, next_source_line, profile_named, read_line,
 };
 use image_file::Image;
 use insn_word::Profile;
@@ -96,11 +96,11 @@ pub fn outline_of(alloc: Global, text: &[u8]) -> Result<Outline<'_>, AllocError>
 
 /// What is said of a text's profile up to this line, where it is `earlier` before the line.
 fn profile_after(earlier: Option<Profile>, line: &SourceLine) -> Option<Profile>
-    ensures { result ≡ option_or earlier (profile_told (line_seen line.now)) }
+    ensures { result ≡ option_or earlier (profile_named (line_seen line.now)) }
 {
     match earlier {
         Some(profile) => Some(profile),
-        None => profile_told(line),
+        None => profile_named(line),
     }
 }
 

@@ -72,7 +72,7 @@ fn stands(place: WordPosition, before: &str, behind: &str) -> bool {
     match place {
         WordPosition::Head => before.is_empty() || before.ends_with(": "),
         WordPosition::Column => begins_column(before) && ends_column(behind),
-        WordPosition::State => is_behind_state(before) && ends_state(behind),
+        WordPosition::State => is_after_state(before) && ends_state(behind),
         WordPosition::Beginning => before.bytes().all(|byte| byte == b' '),
         WordPosition::Anywhere => true,
     }
@@ -86,7 +86,7 @@ fn ends_column(behind: &str) -> bool {
     ends_word(behind) || behind.starts_with('\t') || behind.starts_with(':')
 }
 
-fn is_behind_state(before: &str) -> bool {
+fn is_after_state(before: &str) -> bool {
     before.ends_with(", ")
         || before.ends_with("-> ")
         || before.ends_with("] ")

@@ -14,7 +14,7 @@ use clap::{Arg, ArgAction, ArgMatches, Command, Error};
 use std::alloc::{AllocError, Global};
 use std::convert::AsStr;
 
-/// The most steps that a processor of a threaded run may be told to take.
+/// The most steps that a processor of a threaded run may be asked to take.
 const MAX_FUEL: u64 = 1_000_000;
 
 /// What a command line asks for. Files are named by their paths.

@@ -123,7 +123,12 @@ impl<'a, F: Files, R: Read> Inputs<'a, F, R> {
     }
 
     /// Remembers a file that was opened by a path.
-    fn remember(&mut self, alloc: Global, path: &str, file: &F::File) -> Result<(), AllocError> {
+    pub(crate) fn remember(
+        &mut self,
+        alloc: Global,
+        path: &str,
+        file: &F::File,
+    ) -> Result<(), AllocError> {
         match file.metadata() {
             Ok(metadata) => self.used.remember(alloc, self.files, path, &metadata),
             Err(_) => Ok(()),

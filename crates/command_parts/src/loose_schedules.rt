@@ -157,14 +157,14 @@ pub fn check_loose_schedule(
             point_at(message, &kept);
         }
     }
-    tell_stars(alloc, &strict, image, &mut messages)?;
+    report_stars(alloc, &strict, image, &mut messages)?;
     messages.sort_by_key(|message| (message.line, message.column))?;
     Ok(messages)
 }
 
 /// Reports what the stars of a schedule mean: in a run of an image's program, or else in general; nothing if the text
 /// is no schedule for another reason.
-fn tell_stars(
+fn report_stars(
     alloc: Global,
     strict: &StrictSchedule,
     image: Option<&Image>,
@@ -184,7 +184,7 @@ fn tell_stars(
         Err(_) => return Ok(()),
     }
     match image {
-        Some(image) => tell_stars_of_run(alloc, strict, image, messages),
+        Some(image) => report_stars_of_run(alloc, strict, image, messages),
         None => {
             let words = star_words(alloc)?;
             messages.push(words.message(first.number, first.start, first.star.unwrap_or(0)))?;
@@ -194,7 +194,7 @@ fn tell_stars(
 }
 
 /// Reports what the stars of a schedule stand for in a run of an image's program, and where those are too many steps.
-fn tell_stars_of_run(
+fn report_stars_of_run(
     alloc: Global,
     strict: &StrictSchedule,
     image: &Image,

@@ -97,10 +97,26 @@ impl<F: Files, R: Read> Inputs<'_, F, R> {
             FoundLink::Out(link) => Some(link),
             FoundLink::Elsewhere => return refused(alloc, ANOTHER),
         };
-        match self.read_opened(alloc, path, file)? {
+        match self.read_filled(alloc, path, file, &metadata)? {
             Ok(bytes) => Ok(Ok(RegularFile { bytes, link })),
             Err(why) => Ok(Err(why)),
         }
+    }
+
+    /// The bytes of a file that was opened by a path, of which the system says this. One of no length is not read: the system
+    /// has files of its own that look so, and some of them make who reads them wait.
+    fn read_filled(
+        &mut self,
+        alloc: Global,
+        path: &str,
+        file: F::File,
+        metadata: &Metadata,
+    ) -> Result<Result<Vec<u8>, String>, AllocError> {
+        if metadata.len() == 0 {
+            self.remember(alloc, path, &file)?;
+            return Ok(Ok(Vec::new(alloc)));
+        }
+        self.read_opened(alloc, path, file)
     }
 
     /// What has a path now, by which a file was opened of which the system says this.

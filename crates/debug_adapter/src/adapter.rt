@@ -106,7 +106,7 @@ impl<'a, 'i, 't> Adapter<'a, 'i, 't> {
                 Flow::On
             }
         };
-        connection.tell_all(alloc, &events)?;
+        connection.report_all(alloc, &events)?;
         Ok(turn)
     }
 
@@ -120,7 +120,7 @@ impl<'a, 'i, 't> Adapter<'a, 'i, 't> {
         if self.search_on(&mut events).is_err() {
             return Err(AllocError);
         }
-        connection.tell_all(alloc, &events)
+        connection.report_all(alloc, &events)
     }
 
     /// Does what a request asks for, and writes the body of its response and the events after it.

@@ -15,7 +15,7 @@ impl<'a, 'i, 't> Adapter<'a, 'i, 't> {
             return Ok(());
         }
         if self.origin.stops_on_entry {
-            return self.tell("entry", None, events);
+            return self.report("entry", None, events);
         }
         self.search = Some(OngoingMove::forward(self.end(), None, self.conditions));
         Ok(())
@@ -37,7 +37,7 @@ impl<'a, 'i, 't> Adapter<'a, 'i, 't> {
     /// Stops what is under way.
     pub(crate) fn pause(&mut self, events: &mut Events) -> Result<(), Refusal> {
         self.search = None;
-        self.tell("pause", None, events)
+        self.report("pause", None, events)
     }
 
     /// The last position.
@@ -128,7 +128,7 @@ impl<'a, 'i, 't> Adapter<'a, 'i, 't> {
             Some(position) => self.to(position)?,
             None => self.go_to_last_match(&conditions)?,
         }
-        self.tell("goto", Some(stream), events)
+        self.report("goto", Some(stream), events)
     }
 
     /// The position after the next step that meets the conditions.
@@ -159,7 +159,7 @@ impl<'a, 'i, 't> Adapter<'a, 'i, 't> {
     }
 
     /// Reports where a move ended.
-    pub(crate) fn tell_stop(
+    pub(crate) fn report_stop(
         &mut self,
         stop: StopReason,
         stream: Option<Step>,
@@ -167,9 +167,9 @@ impl<'a, 'i, 't> Adapter<'a, 'i, 't> {
     ) -> Result<(), Refusal> {
         let last = self.named.session.last_step();
         match stop {
-            StopReason::Point => self.tell_points(events),
-            StopReason::Exception => self.tell("exception", last, events),
-            StopReason::Goal => self.tell("step", stream, events),
+            StopReason::Point => self.report_points(events),
+            StopReason::Exception => self.report("exception", last, events),
+            StopReason::Goal => self.report("step", stream, events),
         }
     }
 }

@@ -87,7 +87,7 @@ impl<'a, 'i, 't> Adapter<'a, 'i, 't> {
         match stop {
             Some(stop) => {
                 self.search = None;
-                self.tell_stop(stop, search.stream, events)
+                self.report_stop(stop, search.stream, events)
             }
             None => Ok(()),
         }
@@ -146,7 +146,7 @@ impl<'a, 'i, 't> Adapter<'a, 'i, 't> {
         let before = self.named.session.position();
         let why = self.named.session.back_within(search.budget)?;
         let here = self.named.session.position();
-        if let Some(position) = self.found_behind(search)?
+        if let Some(position) = self.found_after(search)?
             && position >= search.goal
         {
             self.to(position)?;
@@ -175,7 +175,7 @@ impl<'a, 'i, 't> Adapter<'a, 'i, 't> {
     }
 
     /// The last position above the session's, and below where this slice began, after a step that meets the conditions.
-    fn found_behind(&self, search: OngoingMove) -> Result<Option<u64>, Refusal> {
+    fn found_after(&self, search: OngoingMove) -> Result<Option<u64>, Refusal> {
         if !search.conditions.is_any() {
             return Ok(None);
         }

@@ -14,18 +14,18 @@ use stream_core::Outcome;
 
 impl<'a, 'i, 't> Adapter<'a, 'i, 't> {
     /// Reports a stop, for a reason, of a stream: None for that of the next step, or else of the last.
-    pub(crate) fn tell(
+    pub(crate) fn report(
         &mut self,
         reason: &str,
         stream: Option<Step>,
         events: &mut Events,
     ) -> Result<(), Refusal> {
         let keys = Vec::new(self.alloc);
-        self.tell_with(reason, stream, &keys, events)
+        self.report_with(reason, stream, &keys, events)
     }
 
     /// Reports a stop at points.
-    pub(crate) fn tell_points(&mut self, events: &mut Events) -> Result<(), Refusal> {
+    pub(crate) fn report_points(&mut self, events: &mut Events) -> Result<(), Refusal> {
         let keys = self.named.session.stopping_points(self.alloc)?;
         let mut numbers = Vec::new(self.alloc);
         let mut kind = PointKind::Data;
@@ -42,18 +42,18 @@ impl<'a, 'i, 't> Adapter<'a, 'i, 't> {
             PointKind::Function => ("function breakpoint", self.named.session.next_step()),
             PointKind::Data => ("data breakpoint", self.named.session.last_step()),
         };
-        self.tell_with(reason, stream, &numbers, events)
+        self.report_with(reason, stream, &numbers, events)
     }
 
     /// Reports a stop with the numbers of the breakpoints that it is at.
-    fn tell_with(
+    fn report_with(
         &mut self,
         reason: &str,
         stream: Option<Step>,
         numbers: &[u64],
         events: &mut Events,
     ) -> Result<(), Refusal> {
-        self.tell_last_step(events)?;
+        self.report_last_step(events)?;
         let stream = stream.unwrap_or(self.usual_stream());
         self.last_stream = stream;
         let position = self.named.session.position();
@@ -91,7 +91,7 @@ impl<'a, 'i, 't> Adapter<'a, 'i, 't> {
     }
 
     /// Reports the line of the step that led to the position, where there is one.
-    fn tell_last_step(&mut self, events: &mut Events) -> Result<(), Refusal> {
+    fn report_last_step(&mut self, events: &mut Events) -> Result<(), Refusal> {
         let Some((_, line)) = self.last_view()? else {
             return Ok(());
         };

@@ -50,7 +50,7 @@ fn why_word(why: Why) -> &'static str
     }
 }
 
-/// The line of a point's key, behind the word for what became of it.
+/// The line of a point's key, after the word for what became of it.
 #[tactic(auto, unfolding(crate::specs::AnswerTexts::key_line))]
 fn key_text(alloc: Global, word: &str, key: u64) -> Result<String, AllocError>
     ensures { IfOk result (λ text. string_bytes text ≡ key_line word.now key) }

@@ -6,7 +6,7 @@ use stream_core::Stream;
 /// Why the debugger stands where it does.
 #[derive(Clone, Copy, Debug, PartialEq, Eq)]
 pub enum Why {
-    /// It was told to go there.
+    /// A command asked it to go there.
     Moved,
     /// One of its points stops there.
     Stop,

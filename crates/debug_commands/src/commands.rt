@@ -1,4 +1,4 @@
-//! What the debugger is told to do.
+//! What the debugger can be asked to do.
 
 /// A command of the debugger. Position k is the machine after the first k steps of the schedule.
 #[derive(Clone, Copy, Debug, PartialEq, Eq)]

@@ -40,7 +40,7 @@ impl WordList {
         Ok(())
     }
 
-    /// The words in order, each behind its byte address.
+    /// The words in order, each after its byte address.
     pub fn words(&self) -> &[(u64, Word)]
         ensures { result.now ≡ self.now }
     {

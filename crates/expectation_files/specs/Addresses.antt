@@ -31,9 +31,9 @@ said_or kind (Some a) = Ok a
 abbrev pub name_before : List ℕ → List ℕ
 name_before text = text_before 43 text
 
-abbrev pub number_behind : Option (List ℕ) → Option ℕ
-number_behind None = Some 0
-number_behind (Some digits) = count_named digits
+abbrev pub number_after : Option (List ℕ) → Option ℕ
+number_after None = Some 0
+number_after (Some digits) = count_named digits
 
 -- Data words.
 
@@ -51,15 +51,15 @@ abbrev pub address_of_word : ℕ → Option ℕ
 address_of_word word = if nat_lt word most_memory_words then Some (8 * word) else None
 
 -- the byte address of the word that is so many words behind the first of a name's line, where the line has it
-abbrev pub address_behind : Option DataNameValue → Option ℕ → Option ℕ
-address_behind None k = None
-address_behind (Some n) None = None
-address_behind (Some n) (Some k) = if nat_lt k n.count then address_of_word (n.first + k) else None
+abbrev pub address_after : Option DataNameValue → Option ℕ → Option ℕ
+address_after None k = None
+address_after (Some n) None = None
+address_after (Some n) (Some k) = if nat_lt k n.count then address_of_word (n.first + k) else None
 
 -- the byte address of the word of a name
 abbrev pub address_by_name : List DataNameValue → List ℕ → Option ℕ
 address_by_name names text =
-    address_behind (find (is_called (name_before text)) names) (number_behind (text_after 43 text))
+    address_after (find (is_called (name_before text)) names) (number_after (text_after 43 text))
 
 -- what is wrong with a text that is neither a number nor the name of a word: it begins as a name, or is no address
 abbrev pub no_address : List ℕ → LineFaultKind
@@ -87,12 +87,12 @@ range_between (Ok first) (Ok last) =
     if nat_le first last then Ok (record { first = first; last = last }) else Err fault.Range
 
 -- what stands behind a point that no other one follows
-abbrev pub behind_point : List ℕ → Option (List ℕ)
-behind_point text = if slice_index text 0 == 46 && not (slice_index text 1 == 46) then Some (drop 1 text) else None
+abbrev pub after_point : List ℕ → Option (List ℕ)
+after_point text = if slice_index text 0 == 46 && not (slice_index text 1 == 46) then Some (drop 1 text) else None
 
 -- what stands behind the two points of a range
 abbrev pub behind_points : List ℕ → Option (List ℕ)
-behind_points text = option_and_then behind_point (text_after 46 text)
+behind_points text = option_and_then after_point (text_after 46 text)
 
 abbrev pub range_of_texts : Names → List ℕ → Option (List ℕ) → RangeSaid
 range_of_texts names first None = Err fault.Points
@@ -118,7 +118,7 @@ has_label name l = bytes_eq l.name name
 abbrev pub place_by : Names → ℕ → List ℕ → Option ℕ → Option ℕ
 place_by names count text (Some n) = program_word count n
 place_by names count text None =
-    word_behind count (find (has_label (name_before text)) names.labels) (number_behind (text_after 43 text))
+    word_behind count (find (has_label (name_before text)) names.labels) (number_after (text_after 43 text))
 
 -- the program word that a text says, of so many
 unfoldable pub place_said : Names → ℕ → List ℕ → Result ℕ LineFaultKind

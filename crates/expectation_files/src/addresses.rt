@@ -6,9 +6,9 @@ ghost use Rattle.text_parts.specs.Reading.{number_of_text};
 ghost use Rattle.asm_line.specs.Text.{is_first};
 ghost use Rattle.source_places.specs.SourcePlaces.{data_name_seen, data_names_seen, label_seen, labels_seen};
 ghost use Rattle.source_places.specs.DataNames.{is_called};
-ghost use Rattle.expectation_files.specs.Addresses.{Names, unbracketed, multiple_of_8, address_of_word, address_behind};
-ghost use Rattle.expectation_files.specs.Addresses.{address_by_name, no_address, address_said, range_said, behind_point};
-ghost use Rattle.expectation_files.specs.Addresses.{behind_points, number_behind, program_word, word_behind, has_label};
+ghost use Rattle.expectation_files.specs.Addresses.{Names, unbracketed, multiple_of_8, address_of_word, address_after};
+ghost use Rattle.expectation_files.specs.Addresses.{address_by_name, no_address, address_said, range_said, after_point};
+ghost use Rattle.expectation_files.specs.Addresses.{behind_points, number_after, program_word, word_behind, has_label};
 ghost use Rattle.expectation_files.specs.Addresses.{place_by, place_said, places_said, range_between, places_between};
 ghost use Rattle.expectation_files.specs.Seen.{names_in};
 
@@ -87,7 +87,7 @@ fn address_by_name(names: &[DataName<'_>], text: &[u8]) -> Option<u64>
 {
     let (name, digits) = cut(text, b'+');
     let found = data_name(names, name)?;
-    address_behind(found, number_behind(digits)?)
+    address_after(found, number_after(digits)?)
 }
 
 /// The name that is this text.
@@ -103,8 +103,8 @@ fn data_name<'n, 't>(names: &'n [DataName<'t>], text: &[u8]) -> Option<&'n DataN
 }
 
 /// The byte address of the word that is so many words after the first of a name's line, where the line has it.
-fn address_behind(name: &DataName<'_>, count: usize) -> Option<u64>
-    ensures { result ≡ address_behind (Some (data_name_seen name.now)) (Some count) }
+fn address_after(name: &DataName<'_>, count: usize) -> Option<u64>
+    ensures { result ≡ address_after (Some (data_name_seen name.now)) (Some count) }
 {
     if count < name.count {
         address_of_word(name.first.checked_add(count)?)
@@ -125,8 +125,8 @@ fn address_of_word(word: usize) -> Option<u64>
 }
 
 /// The number after a plus; 0 where there is none.
-fn number_behind(digits: Option<&[u8]>) -> Option<usize>
-    ensures { result ≡ number_behind (option_copied digits.entry) }
+fn number_after(digits: Option<&[u8]>) -> Option<usize>
+    ensures { result ≡ number_after (option_copied digits.entry) }
 {
     match digits {
         Some(digits) => count_named(digits),
@@ -161,7 +161,7 @@ pub(crate) fn range_said(
     ensures { result ≡ range_said (names_in names.entry) text.now }
 {
     let (first, rest) = cut(text, b'.');
-    let last = behind_point(rest).ok_or(LineFaultKind::Points)?;
+    let last = after_point(rest).ok_or(LineFaultKind::Points)?;
     let first = address_said(names, first)?;
     let last = address_said(names, last)?;
     if first <= last {
@@ -172,8 +172,8 @@ pub(crate) fn range_said(
 }
 
 /// What stands after a point that a text begins with, where no other one follows.
-fn behind_point(text: Option<&[u8]>) -> Option<&[u8]>
-    ensures { option_copied result ≡ option_and_then behind_point (option_copied text.entry) }
+fn after_point(text: Option<&[u8]>) -> Option<&[u8]>
+    ensures { option_copied result ≡ option_and_then after_point (option_copied text.entry) }
 {
     match text {
         Some([b'.', b'.', ..]) => None,
@@ -192,7 +192,7 @@ pub(crate) fn places_said(
     ensures { result ≡ places_said (names_in names.entry) count text.now }
 {
     let (first, rest) = cut(text, b'.');
-    let last = behind_point(rest).ok_or(LineFaultKind::Points)?;
+    let last = after_point(rest).ok_or(LineFaultKind::Points)?;
     let first = place_said(names, count, first)?;
     let last = place_said(names, count, last)?;
     if first <= last {
@@ -223,7 +223,7 @@ fn place_by_label(names: KnownNames<'_, '_, '_>, count: usize, text: &[u8]) -> O
 {
     let (name, digits) = cut(text, b'+');
     let label = label_called(names.labels, name)?;
-    let more = number_behind(digits)?;
+    let more = number_after(digits)?;
     program_word(count, label.place.value.checked_add(more)?)
 }
 

@@ -55,9 +55,23 @@ pub fn fault_words(
     image: &Image,
     names: &ProgramNames<'_>,
 ) -> Result<String, AllocError> {
+    words_of(alloc, kind, word, image, Some(names))
+}
+
+/// The same; without names it is not said which one may be meant.
+pub(crate) fn words_of(
+    alloc: Global,
+    kind: LineFaultKind,
+    word: &str,
+    image: &Image,
+    names: Option<&ProgramNames<'_>>,
+) -> Result<String, AllocError> {
     match text_of(kind) {
         FaultText::Fixed(words) => String::from_str(alloc, words),
-        FaultText::DataNames => name_words(alloc, word, names),
+        FaultText::DataNames => match names {
+            Some(names) => name_words(alloc, word, names),
+            None => String::from_str(alloc, "no data word of the program has this name"),
+        },
         FaultText::DataWords => missing_word(alloc, image),
         FaultText::Streams => missing_stream(alloc, image),
         FaultText::ProgramWords => missing_place(alloc, image),

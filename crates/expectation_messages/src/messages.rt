@@ -1,6 +1,6 @@
 //! Faults of files of expectations as messages.
 
-use crate::fault_texts::fault_words;
+use crate::fault_texts::words_of;
 use command_parts::Program;
 use command_parts::texts::ProgramNames;
 use expectation_files::{
@@ -14,6 +14,9 @@ use std::alloc::{AllocError, Global};
 
 /// Why a file that says nothing is refused.
 pub(crate) const EMPTY: &str = "nothing is expected here, so nothing can be judged";
+
+/// In how many messages about a file it is said which name may be meant: each compares a name with all that there are.
+const MOST_COMPARED: usize = 100;
 
 /// What is wrong with a file of expectations, a message for each line with a fault, [`MOST_FOUND`] at most. Without a program a
 /// name is no fault.
@@ -52,10 +55,15 @@ fn messages_of(
 ) -> Result<Vec<Message>, AllocError> {
     let mut messages = Vec::new(alloc);
     let mut begin = LineBegin::FIRST;
-    for fault in faults.iter().take(MOST_FOUND) {
+    for (index, fault) in faults.iter().take(MOST_FOUND).enumerate() {
         match *fault {
             FileFault::Line { line, fault } => {
                 begin = begin.of_line(text, line);
+                let names = if index < MOST_COMPARED {
+                    Some(names)
+                } else {
+                    None
+                };
                 messages.push(message_on(alloc, text, begin, fault, image, names)?)?;
             }
             FileFault::Empty => messages.push(empty_message(alloc)?)?,
@@ -65,14 +73,14 @@ fn messages_of(
     Ok(messages)
 }
 
-/// The message of a fault on a line, which marks the word that is wrong.
+/// The message of a fault on a line, which marks the word that is wrong. Without names it does not say which one may be meant.
 pub(crate) fn message_on(
     alloc: Global,
     text: &[u8],
     begin: LineBegin,
     fault: LineFault,
     image: &Image,
-    names: &ProgramNames<'_>,
+    names: Option<&ProgramNames<'_>>,
 ) -> Result<Message, AllocError> {
     let bytes = line_of(text.get(begin.start..).unwrap_or(b""), 1);
     let span = word_span(bytes, fault.word);
@@ -83,7 +91,7 @@ pub(crate) fn message_on(
         column: span.column,
         width: span.width.max(1),
     };
-    Ok(error_at(spot, fault_words(alloc, fault.kind, word, image, names)?))
+    Ok(error_at(spot, words_of(alloc, fault.kind, word, image, names)?))
 }
 
 /// The message that a file says nothing.

@@ -44,7 +44,7 @@ pub fn file_fault(
         FileFault::Line { line, fault } => {
             let names = ProgramNames::of(alloc, &program.text)?;
             let begin = LineBegin::FIRST.of_line(text, line);
-            let message = message_on(alloc, text, begin, fault, &program.image, &names)?;
+            let message = message_on(alloc, text, begin, fault, &program.image, Some(&names))?;
             let path = plain(alloc, path)?;
             let mut lines = String::new(alloc);
             push_message(&mut lines, &path, text, &message)?;

@@ -172,11 +172,11 @@ fn put_mark(out: &mut TextWriter, line: &[u8], message: &Message) {
         put_blank(out, *byte);
     }
     out.put("^");
-    let behind = line
+    let rest = line
         .iter()
         .skip(message.column)
         .take(message.width.saturating_sub(1));
-    for byte in behind {
+    for byte in rest {
         if begins_character(*byte) {
             out.put("^");
         }

@@ -141,7 +141,7 @@ impl Notes {
     }
 
     /// Reports what is found, by messages after others.
-    pub fn tell(self, severity: Severity, messages: &mut Vec<Message>) -> Result<(), AllocError>
+    pub fn report(self, severity: Severity, messages: &mut Vec<Message>) -> Result<(), AllocError>
         ensures { OnOk result (has_error messages.new.items
             ≡ (has_error messages.old.items || (is_error severity && nat_lt 0 (vec_len self.found)))) }
     {

@@ -22,7 +22,7 @@ impl<'t> Token<'t> {
     }
 
     /// What stands from this place of the piece on, or nothing at its end.
-    pub fn behind(self, place: usize) -> Token<'t>
+    pub fn after(self, place: usize) -> Token<'t>
         ensures { length result.bytes.now ≡ length self.entry.bytes.now - place }
     {
         let place = place.min(self.bytes.len());
@@ -48,7 +48,7 @@ impl<'t> Token<'t> {
         ensures { IfSome result.1 (λ rest. length rest.bytes.now < length self.entry.bytes.now) }
     {
         match self.bytes.iter().position(|b| *b == byte) {
-            Some(place) => (self.before(place), Some(self.behind(place + 1))),
+            Some(place) => (self.before(place), Some(self.after(place + 1))),
             None => (self, None),
         }
     }

@@ -1,7 +1,7 @@
 -- The points of cases, one after the other.
 use Rattle.std.proofs.Common.{◌≡◌, ◌+◌, ◌-◌, ◌^◌, ◌<◌, ◌≤◌, ℕ, List, [], ◌∷◌, length, min, arith}
 use Rattle.grade_reports.specs.Scores.{earned_points, unscored_points}
-use Rattle.grade_reports.specs.declared.rows.CaseRow.{CaseRow}
+use Rattle.grade_rows.specs.declared.rows.CaseRow.{CaseRow}
 use Rattle.lab_requests.specs.declared.requests.Undecided.{Undecided}
 
 -- no case is left to earn by

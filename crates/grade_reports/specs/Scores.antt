@@ -1,10 +1,10 @@
 -- The points of a submission.
 use Rattle.std.specs.Prelude.{ℕ, ◌+◌, List, [], ◌∷◌, Option, Some, None, unwrap_or}
-use Rattle.judgements.specs.declared.verdict_kinds.VerdictKind.{VerdictKind}
-use Rattle.judgements.specs.declared.verdict_kinds.VerdictKind.TheVariants as verdict
+use Rattle.grade_rows.specs.JudgementsTypes.VerdictKind.{VerdictKind}
+use Rattle.grade_rows.specs.JudgementsTypes.VerdictKind.TheVariants as verdict
 use Rattle.lab_requests.specs.declared.requests.Undecided.{Undecided}
 use Rattle.lab_requests.specs.declared.requests.Undecided.TheVariants as undecided
-use Rattle.grade_reports.specs.declared.rows.CaseRow.{CaseRow}
+use Rattle.grade_rows.specs.declared.rows.CaseRow.{CaseRow}
 
 -- the score of a case with so many points that is not decided
 abbrev pub undecided_score : Undecided → ℕ → Option ℕ

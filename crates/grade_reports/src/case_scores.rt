@@ -3,8 +3,8 @@
 ghost use Rattle.std.specs.Prelude.{◌≡◌, ◌-◌, ◌^◌, min};
 ghost use Rattle.grade_reports.specs.Scores.{undecided_score, score_of, earned_points, unscored_by, unscored_points};
 
-use crate::rows::CaseRow;
-use judgements::VerdictKind;
+use grade_rows::CaseRow;
+use grade_rows::judges::VerdictKind;
 use lab_requests::Undecided;
 
 /// The score of a submission by a case with so many points: all of them where it is right, none where it is wrong; None where

@@ -1,10 +1,9 @@
 //! Names of files in commands, as a shell takes them.
 
-use plain_text::is_hidden;
-use std::alloc::AllocError;
+use plain_text::{TextWriter, is_hidden};
 
 /// How a name stands in a command.
-#[derive(Clone, Copy, Debug, PartialEq, Eq)]
+#[derive(Clone, Copy)]
 enum WordForm {
     /// As it is.
     Bare,
@@ -18,7 +17,7 @@ enum WordForm {
 /// to a shell, else in quotes. `./` stands before one that begins with `-`, so that it is no option; `-` alone is standard
 /// input. If it has a control byte, or a character that is not seen itself, it stands in `$'..'` with octal escapes, as bash,
 /// zsh and ksh take it.
-pub(crate) fn push_file_word(out: &mut String, name: &str) -> Result<(), AllocError> {
+pub(crate) fn put_file_word(out: &mut TextWriter, name: &str) {
     let front = if name.starts_with("-") && name != "-" {
         "./"
     } else {
@@ -26,18 +25,20 @@ pub(crate) fn push_file_word(out: &mut String, name: &str) -> Result<(), AllocEr
     };
     match form_of(name) {
         WordForm::Bare => {
-            out.push_str(front)?;
-            out.push_str(name)
+            out.put(front);
+            out.put(name);
         }
         WordForm::Quoted => {
-            write!(out, "'{front}")?;
-            push_quoted(out, name)?;
-            out.push_str("'")
+            out.put("'");
+            out.put(front);
+            put_quoted(out, name);
+            out.put("'");
         }
         WordForm::Escaped => {
-            write!(out, "$'{front}")?;
-            push_escaped(out, name)?;
-            out.push_str("'")
+            out.put("$'");
+            out.put(front);
+            put_escaped(out, name);
+            out.put("'");
         }
     }
 }
@@ -68,26 +69,32 @@ fn is_bare(byte: u8) -> bool {
 }
 
 /// Adds what stands between `'`, where nothing but `'` ends it.
-fn push_quoted(out: &mut String, name: &str) -> Result<(), AllocError> {
+fn put_quoted(out: &mut TextWriter, name: &str) {
     for letter in name.chars() {
         if letter == '\'' {
-            out.push_str("'\\''")?;
+            out.put("'\\''");
         } else {
-            out.push(letter)?;
+            out.put_letter(letter);
         }
     }
-    Ok(())
 }
 
 /// Adds what stands in `$'..'`: each byte that is no sign of ASCII, and `'` and `\`, by its number.
-fn push_escaped(out: &mut String, name: &str) -> Result<(), AllocError> {
+fn put_escaped(out: &mut TextWriter, name: &str) {
     for byte in name.bytes() {
         let is_sign = byte.is_ascii_graphic() || byte == b' ';
         if is_sign && byte != b'\'' && byte != b'\\' {
-            out.push(char::from(byte))?;
+            out.put_letter(char::from(byte));
         } else {
-            write!(out, "\\{byte:03o}")?;
+            put_octal(out, byte);
         }
     }
-    Ok(())
+}
+
+/// Adds the number of a byte, in three octal digits.
+fn put_octal(out: &mut TextWriter, byte: u8) {
+    out.put("\\");
+    out.put_number(u64::from(byte / 64));
+    out.put_number(u64::from(byte / 8 % 8));
+    out.put_number(u64::from(byte % 8));
 }

@@ -1,13 +1,13 @@
 //! What a student is given of a submission, as a text.
 
 use crate::case_scores::{earned_points, has_all_scores, score_of, unscored_points};
-use crate::command_words::push_file_word;
-use crate::reasons::{push_turns, reason_by_case, why_of};
-use crate::rows::{CaseRow, GradeRow};
+use crate::cells::put_made;
+use crate::command_words::put_file_word;
 use crate::student_rows::row_for_student;
-use judgements::{Case, Witness};
+use grade_rows::judges::{Case, Witness};
+use grade_rows::{CaseRow, GradeRow, put_turns, reason_by_case, reason_of};
 use lab_requests::Undecided;
-use plain_text::{file_name, plain, plural, push_plain};
+use plain_text::{TextWriter, file_name, plural};
 use std::alloc::{AllocError, Global};
 
 /// How many steps a run of `view` by a seed has at most, where nothing else is said.
@@ -36,159 +36,176 @@ pub fn feedback_of(
     row: &GradeRow,
     cases: &[Case],
 ) -> Result<String, AllocError> {
-    let mut out = String::new(alloc);
-    let name = file_name(file.path);
-    push_plain(&mut out, name)?;
-    let word = row.kind.word();
-    write!(out, ": {word}, ")?;
-    push_points(&mut out, file, row)?;
-    out.push_str("\n\n")?;
-    push_verdicts(alloc, &mut out, file.undecided, row)?;
+    let mut out = TextWriter::new(alloc);
+    put_head(&mut out, file, row);
+    put_verdicts(&mut out, file.undecided, row);
     if row.cases.is_empty() {
-        out.push_str("All messages: mta_lab check ")?;
-        push_file_word(&mut out, name)?;
-        out.push_str("\n")?;
+        out.put("All messages: mta_lab check ");
+        put_file_word(&mut out, file_name(file.path));
+        out.put("\n");
     }
     for (case, given) in row.cases.iter().zip(cases.iter()) {
-        push_look(alloc, &mut out, file, case, given)?;
+        put_look(&mut out, file, case, given);
     }
     if let Some(page) = file.page {
-        out.push_str("\nThe page of a run: ")?;
-        push_plain(&mut out, page)?;
-        out.push_str("\n")?;
+        out.put("\nThe page of a run: ");
+        out.put_plain(page);
+        out.put("\n");
     }
-    Ok(out)
+    out.take_text()
+}
+
+/// Adds the first line: the name of the file, the verdict and the points.
+fn put_head(out: &mut TextWriter, file: StudentFile<'_>, row: &GradeRow) {
+    out.put_plain(file_name(file.path));
+    out.put(": ");
+    out.put(row.kind.word());
+    out.put(", ");
+    put_points(out, file, row);
+    out.put("\n\n");
 }
 
 /// Adds the points of a submission: what it has earned of all of them, and for how many it has no score.
-fn push_points(out: &mut String, file: StudentFile<'_>, row: &GradeRow) -> Result<(), AllocError> {
+fn put_points(out: &mut TextWriter, file: StudentFile<'_>, row: &GradeRow) {
     let points = file.points;
-    let some_points = plural(points as usize);
     let is_scored = has_all_scores(file.undecided, &row.cases);
     let unscored = unscored_points(file.undecided, &row.cases);
     if !is_scored && unscored >= points {
-        return write!(out, "no score of {points} point{some_points}");
+        out.put("no score of ");
+        put_count(out, points);
+        return;
     }
-    let earned = earned_points(file.undecided, &row.cases);
-    write!(out, "{earned} of {points} point{some_points}")?;
-    if is_scored {
-        return Ok(());
+    out.put_number(earned_points(file.undecided, &row.cases));
+    out.put(" of ");
+    put_count(out, points);
+    if !is_scored {
+        out.put(", no score of ");
+        out.put_number(unscored);
     }
-    write!(out, ", no score of {unscored}")
+}
+
+/// Adds how many points there are.
+fn put_count(out: &mut TextWriter, points: u64) {
+    out.put_number(points);
+    out.put(" point");
+    out.put(plural(points as usize));
 }
 
 /// Adds a line a case: its name, the verdict, the points, and why; of what is no program why it is none.
-pub(crate) fn push_verdicts(
-    alloc: Global,
-    out: &mut String,
-    undecided: Undecided,
-    row: &GradeRow,
-) -> Result<(), AllocError> {
+pub(crate) fn put_verdicts(out: &mut TextWriter, undecided: Undecided, row: &GradeRow) {
     if row.cases.is_empty() {
-        let word = row.kind.word();
-        let why = plain(alloc, &why_of(alloc, row, 0)?)?;
-        return write!(out, "{word}: {why}\n");
+        out.put(row.kind.word());
+        out.put(": ");
+        put_made(out, reason_of(out.alloc(), row, 0));
+        out.put("\n");
+        return;
     }
     for case in row.cases.iter() {
-        push_verdict(alloc, out, undecided, case)?;
+        put_verdict(out, undecided, case);
     }
-    Ok(())
 }
 
 /// Adds the line of a case.
-fn push_verdict(
-    alloc: Global,
-    out: &mut String,
-    undecided: Undecided,
-    case: &CaseRow,
-) -> Result<(), AllocError> {
+fn put_verdict(out: &mut TextWriter, undecided: Undecided, case: &CaseRow) {
     let student = row_for_student(case);
     if let Some(name) = &case.name {
-        out.push_str("case ")?;
-        push_plain(out, name)?;
-        out.push_str(": ")?;
+        out.put("case ");
+        out.put_plain(name);
+        out.put(": ");
     }
-    out.push_str(student.kind.word())?;
-    let points = student.points;
-    match score_of(undecided, student.kind, points) {
-        Some(score) => write!(out, ", {score} of {points}")?,
-        None => write!(out, ", no score of {points}")?,
-    }
+    out.put(student.kind.word());
+    put_score(
+        out,
+        score_of(undecided, student.kind, student.points),
+        student.points,
+    );
     match student.shown {
         Some(shown) => {
-            let why = reason_by_case(alloc, shown)?;
-            write!(out, ": {why}\n")
+            out.put(": ");
+            put_made(out, reason_by_case(out.alloc(), shown));
+            out.put("\n");
         }
-        None => out.push_str(" (a hidden case)\n"),
+        None => out.put(" (a hidden case)\n"),
     }
+}
+
+/// Adds the score by a case with so many points.
+fn put_score(out: &mut TextWriter, score: Option<u32>, points: u32) {
+    match score {
+        Some(score) => {
+            out.put(", ");
+            out.put_number(u64::from(score));
+            out.put(" of ");
+        }
+        None => out.put(", no score of "),
+    }
+    out.put_number(u64::from(points));
 }
 
 /// Adds how to look at the run that shows what is wrong by a case, where students see it.
-fn push_look(
-    alloc: Global,
-    out: &mut String,
-    file: StudentFile<'_>,
-    case: &CaseRow,
-    given: &Case,
-) -> Result<(), AllocError> {
+fn put_look(out: &mut TextWriter, file: StudentFile<'_>, case: &CaseRow, given: &Case) {
     let Some(shown) = row_for_student(case).shown else {
-        return Ok(());
+        return;
     };
     if matches!(&shown.witness, Witness::None) {
-        return Ok(());
+        return;
     }
-    out.push_str("\nTo see this run")?;
+    out.put("\nTo see this run");
     if let Some(case) = &shown.name {
-        out.push_str(" of case ")?;
-        push_plain(out, case)?;
+        out.put(" of case ");
+        out.put_plain(case);
     }
-    out.push_str(":\n")?;
+    out.put(":\n");
     if given.cells.is_some() {
-        out.push_str(
+        out.put(
             "- give your words these values, by their names or from the first one on; others stay:\n",
-        )?;
-        push_cells(alloc, out, &given.given)?;
+        );
+        put_cells(out, &given.given);
     }
-    push_view(alloc, out, file, &shown.witness)
+    put_view(out, file, &shown.witness);
 }
 
 /// Adds the call of `view` that makes a run.
-fn push_view(
-    alloc: Global,
-    out: &mut String,
-    file: StudentFile<'_>,
-    witness: &Witness,
-) -> Result<(), AllocError> {
+fn put_view(out: &mut TextWriter, file: StudentFile<'_>, witness: &Witness) {
     let name = file_name(file.path);
     match witness {
-        Witness::None => Ok(()),
+        Witness::None => {}
         Witness::Seed(seed) => {
-            out.push_str("- mta_lab view ")?;
-            push_file_word(out, name)?;
-            write!(out, " --seed {seed}")?;
-            if file.most != USUAL_STEPS {
-                let most = file.most;
-                write!(out, " --steps {most}")?;
-            }
-            out.push_str("\n")
+            out.put("- mta_lab view ");
+            put_file_word(out, name);
+            out.put(" --seed ");
+            out.put_number(*seed);
+            put_steps(out, file.most);
+            out.put("\n");
         }
         Witness::Schedule(steps) => {
-            out.push_str("- write these lines into run.schedule:\n    ")?;
-            push_turns(alloc, out, steps, "\n    ")?;
-            out.push_str("\n- mta_lab view ")?;
-            push_file_word(out, name)?;
-            out.push_str(" run.schedule\n")
+            out.put("- write these lines into run.schedule:\n    ");
+            put_turns(out, steps, "\n    ");
+            out.put("\n- mta_lab view ");
+            put_file_word(out, name);
+            out.put(" run.schedule\n");
         }
+    }
+}
+
+/// Adds how many steps a run has at most, where that is not what `view` takes.
+fn put_steps(out: &mut TextWriter, most: usize) {
+    if most != USUAL_STEPS {
+        out.put(" --steps ");
+        out.put_number(most as u64);
     }
 }
 
 /// Adds the lines of a case's cells; what is no UTF-8 there is left out.
-fn push_cells(alloc: Global, out: &mut String, text: &[u8]) -> Result<(), AllocError> {
-    let text = String::from_utf8_lossy(alloc, text)?;
-    for line in text.lines() {
-        out.push_str("    ")?;
-        push_plain(out, line)?;
-        out.push_str("\n")?;
+fn put_cells(out: &mut TextWriter, text: &[u8]) {
+    match String::from_utf8_lossy(out.alloc(), text) {
+        Ok(text) => {
+            for line in text.lines() {
+                out.put("    ");
+                out.put_plain(line);
+                out.put("\n");
+            }
+        }
+        Err(_) => out.lack_piece(),
     }
-    Ok(())
 }

@@ -1,15 +1,15 @@
 //! Verdicts as the results that Gradescope reads.
 
 use crate::case_scores::{earned_points, has_all_scores, score_of};
-use crate::json_report::push_object;
-use crate::reasons::{reason_by_case, why_of};
-use crate::reports::{ReportForm, ReportedRow};
-use crate::rows::CaseRow;
+use crate::cells::put_made;
+use crate::json_report::put_object;
+use crate::reports::ReportedRow;
 use crate::student_rows::row_for_student;
-use judgements::VerdictKind;
-use lab_json::{List, Object};
+use grade_rows::judges::VerdictKind;
+use grade_rows::{CaseRow, ReportForm, reason_by_case, reason_of};
+use lab_json::{List, Object, text_value};
 use lab_requests::Undecided;
-use plain_text::plain;
+use plain_text::{TextWriter, plain};
 use serde_json::Value;
 use std::alloc::{AllocError, Global};
 
@@ -21,22 +21,36 @@ pub(crate) fn gradescope_report(
     rows: &[ReportedRow<'_>],
 ) -> Result<String, AllocError> {
     let mut tests = List::new(alloc);
-    let mut sum: u64 = 0;
-    let mut is_complete = true;
     for reported in rows {
-        let cases = &reported.row.cases;
-        sum = sum.saturating_add(earned_points(form.undecided, cases));
-        is_complete = is_complete && has_all_scores(form.undecided, cases);
         put_tests(alloc, &mut tests, reported, rows.len() > 1);
     }
     let mut results = Object::new(alloc);
     results.put("tests", tests.whole());
-    if !is_complete {
-        results.put_number("score", sum);
+    if !is_complete(form, rows) {
+        results.put_number("score", sum_of(form, rows));
     }
-    let mut out = String::new(alloc);
-    push_object(alloc, &mut out, &results.whole()?)?;
-    Ok(out)
+    let mut out = TextWriter::new(alloc);
+    put_object(&mut out, results.whole());
+    out.take_text()
+}
+
+/// Whether each submission has a score by each case.
+fn is_complete(form: ReportForm, rows: &[ReportedRow<'_>]) -> bool {
+    for reported in rows {
+        if !has_all_scores(form.undecided, &reported.row.cases) {
+            return false;
+        }
+    }
+    true
+}
+
+/// The sum of the points of all submissions.
+fn sum_of(form: ReportForm, rows: &[ReportedRow<'_>]) -> u64 {
+    let mut sum: u64 = 0;
+    for reported in rows {
+        sum = sum.saturating_add(earned_points(form.undecided, &reported.row.cases));
+    }
+    sum
 }
 
 /// Puts the tests of a submission, with its path in their names where there are several submissions.
@@ -82,42 +96,57 @@ fn name_value(
     case: &CaseRow,
     path: &str,
 ) -> Result<Value, AllocError> {
-    let name = match &case.name {
-        Some(name) if path.is_empty() => plain(alloc, name)?,
-        Some(name) => plain(alloc, &format!(in alloc; "{path}: {name}")?)?,
-        None => plain(alloc, reported.submission)?,
-    };
-    Ok(Value::String(name))
+    let mut out = TextWriter::new(alloc);
+    match &case.name {
+        Some(name) => {
+            if !path.is_empty() {
+                out.put_plain(path);
+                out.put(": ");
+            }
+            out.put_plain(name);
+        }
+        None => out.put_plain(reported.submission),
+    }
+    Ok(Value::String(out.take_text()?))
 }
 
 /// What a student may read of a case.
 fn output_value(alloc: Global, case: &CaseRow) -> Result<Value, AllocError> {
     let student = row_for_student(case);
-    let word = student.kind.word();
-    let output = match student.shown {
-        Some(shown) => {
-            let why = reason_by_case(alloc, shown)?;
-            format!(in alloc; "{word}: {why}")?
-        }
-        None => String::from_str(alloc, word)?,
-    };
-    Ok(Value::String(output))
+    match student.shown {
+        Some(shown) => words_value(alloc, student.kind, reason_by_case(alloc, shown)),
+        None => text_value(alloc, student.kind.word()),
+    }
+}
+
+/// The word of a verdict, and why it is so, which was made.
+fn words_value(
+    alloc: Global,
+    kind: VerdictKind,
+    why: Result<String, AllocError>,
+) -> Result<Value, AllocError> {
+    let mut out = TextWriter::new(alloc);
+    out.put(kind.word());
+    out.put(": ");
+    put_made(&mut out, why);
+    Ok(Value::String(out.take_text()?))
 }
 
 /// The test of a submission that is no program.
 fn no_program_value(alloc: Global, reported: &ReportedRow<'_>) -> Result<Value, AllocError> {
     let mut test = Object::new(alloc);
-    test.put(
-        "name",
-        Ok(Value::String(plain(alloc, reported.submission)?)),
-    );
+    let kind = reported.row.kind;
+    test.put("name", submission_value(alloc, reported.submission));
     test.put_number("score", 0);
     test.put_number("max_score", reported.form.points);
-    let word = reported.row.kind.word();
-    let why = plain(alloc, &why_of(alloc, reported.row, 0)?)?;
-    let output = Value::String(format!(in alloc; "{word}: {why}")?);
-    test.put("output", Ok(output));
+    let why = reason_of(alloc, reported.row, 0);
+    test.put("output", words_value(alloc, kind, why));
     test.put_text("output_format", "text");
     test.put_text("visibility", "visible");
     test.whole()
+}
+
+/// The path of a submission without control bytes.
+fn submission_value(alloc: Global, path: &str) -> Result<Value, AllocError> {
+    Ok(Value::String(plain(alloc, path)?))
 }

@@ -1,33 +1,28 @@
 //! Verdicts as JSON ("JSON", docs/LAB_REFERENCE.md).
 
 use crate::case_scores::{earned_points, score_of};
+use crate::cells::put_made;
 use crate::reports::ReportedRow;
-use crate::rows::{CaseRow, CountedEnd, ReportLine, SourcePosition};
-use judgements::{Known, Witness};
+use grade_rows::judges::{Known, Witness};
+use grade_rows::{CaseRow, CountedEnd, ReportLine, SourcePosition};
 use lab_json::{List, Object, digits, line_value, text_value, turns_value};
 use lab_requests::Undecided;
+use plain_text::TextWriter;
 use serde_json::Value;
 use std::alloc::{AllocError, Global};
 
 /// Adds the object of a submission.
-pub(crate) fn push_json(
-    alloc: Global,
-    out: &mut String,
-    reported: &ReportedRow<'_>,
-) -> Result<(), AllocError> {
-    let grade = grade_value(alloc, reported)?;
-    push_object(alloc, out, &grade)
+pub(crate) fn put_json(out: &mut TextWriter, reported: &ReportedRow<'_>) {
+    put_object(out, grade_value(out.alloc(), reported));
 }
 
-/// Adds an object and the end of its line.
-pub(crate) fn push_object(
-    alloc: Global,
-    out: &mut String,
-    object: &Value,
-) -> Result<(), AllocError> {
-    let text = object.to_string(alloc)?;
-    out.push_str(&text)?;
-    out.push_str("\n")
+/// Adds an object and the end of its line, unless memory was refused for it.
+pub(crate) fn put_object(out: &mut TextWriter, object: Result<Value, AllocError>) {
+    match object {
+        Ok(object) => put_made(out, object.to_string(out.alloc())),
+        Err(_) => out.lack_piece(),
+    }
+    out.put("\n");
 }
 
 /// The object of a submission.
@@ -40,14 +35,22 @@ fn grade_value(alloc: Global, reported: &ReportedRow<'_>) -> Result<Value, Alloc
     put_known(alloc, &mut grade, row.known);
     put_witness(alloc, &mut grade, &row.witness);
     grade.put("missed", missed_value(alloc, row.missed.as_ref()));
-    let undecided = reported.form.undecided;
-    grade.put_number("points", earned_points(undecided, &row.cases));
-    grade.put_number("max_points", reported.form.points);
-    grade.put("cases", cases_value(alloc, undecided, &row.cases));
+    put_points(&mut grade, reported);
+    grade.put(
+        "cases",
+        cases_value(alloc, reported.form.undecided, &row.cases),
+    );
     grade.put("place", place_value(alloc, row.place));
     grade.put("ends", ends_value(alloc, &row.ends));
     grade.put("page", some_text_value(alloc, row.page.as_ref()));
     grade.whole()
+}
+
+/// Puts the points that a submission has earned, and how many there are.
+fn put_points(grade: &mut Object, reported: &ReportedRow<'_>) {
+    let earned = earned_points(reported.form.undecided, &reported.row.cases);
+    grade.put_number("points", earned);
+    grade.put_number("max_points", reported.form.points);
 }
 
 /// The rows of cases.
@@ -69,17 +72,20 @@ fn case_value(alloc: Global, undecided: Undecided, case: &CaseRow) -> Result<Val
     object.put("case", some_text_value(alloc, case.name.as_ref()));
     object.put("hidden", Ok(Value::Bool(case.is_hidden)));
     object.put_text("verdict", case.kind.word());
-    let score = score_of(undecided, case.kind, case.points);
-    let score = match score {
-        Some(score) => Value::from(u64::from(score)),
-        None => Value::Null,
-    };
-    object.put("points", Ok(score));
+    object.put("points", Ok(score_value(undecided, case)));
     object.put_number("max_points", u64::from(case.points));
     put_known(alloc, &mut object, case.known);
     put_witness(alloc, &mut object, &case.witness);
     object.put("missed", missed_value(alloc, case.missed.as_ref()));
     object.whole()
+}
+
+/// The score by a case; null where it has none.
+fn score_value(undecided: Undecided, case: &CaseRow) -> Value {
+    match score_of(undecided, case.kind, case.points) {
+        Some(score) => Value::from(u64::from(score)),
+        None => Value::Null,
+    }
 }
 
 /// A text that may be missing.

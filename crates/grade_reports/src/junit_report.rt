@@ -1,12 +1,11 @@
 //! Verdicts as the XML of JUnit's reports.
 
-use crate::reasons::{reason_by_case, why_of};
 use crate::report_classes::ReportClass;
 use crate::reports::ReportedRow;
-use crate::rows::{CaseRow, GradeRow};
 use crate::student_rows::row_for_student;
-use judgements::VerdictKind;
-use plain_text::{front_of, plain};
+use grade_rows::judges::VerdictKind;
+use grade_rows::{CaseRow, GradeRow, reason_by_case, why_of};
+use plain_text::{TextWriter, front_of, plain};
 use std::alloc::{AllocError, Global};
 
 /// How many characters of a text an attribute has at most. (Readers of XML refuse one of 10 MB.)
@@ -20,44 +19,46 @@ const NO_CASE: &str = "program";
 
 /// The report of all submissions: a test suite for each, with a test case for each case.
 pub(crate) fn junit_report(alloc: Global, rows: &[ReportedRow<'_>]) -> Result<String, AllocError> {
-    let mut out = String::from_str(
-        alloc,
-        "<?xml version=\"1.0\" encoding=\"UTF-8\"?>\n<testsuites>\n",
-    )?;
+    let mut out = TextWriter::new(alloc);
+    out.put("<?xml version=\"1.0\" encoding=\"UTF-8\"?>\n<testsuites>\n");
     for reported in rows {
-        push_suite(alloc, &mut out, reported)?;
+        put_suite(&mut out, reported);
     }
-    out.push_str("</testsuites>\n")?;
-    Ok(out)
+    out.put("</testsuites>\n");
+    out.take_text()
 }
 
 /// Adds the test suite of a submission. One that is no program has one test case, which is an error.
-fn push_suite(
-    alloc: Global,
-    out: &mut String,
-    reported: &ReportedRow<'_>,
-) -> Result<(), AllocError> {
+fn put_suite(out: &mut TextWriter, reported: &ReportedRow<'_>) {
     let row = reported.row;
-    out.push_str("<testsuite name=\"")?;
-    push_xml(alloc, out, reported.submission)?;
-    let tests = row.cases.len().max(1);
-    let failures = count_of(row, ReportClass::Failed);
-    let errors = count_of(row, ReportClass::NotRun);
-    let skipped = count_of(row, ReportClass::Skipped);
-    write!(
-        out,
-        "\" tests=\"{tests}\" failures=\"{failures}\" errors=\"{errors}\" skipped=\"{skipped}\">\n"
-    )?;
-    push_properties(alloc, out, row)?;
+    out.put("<testsuite name=\"");
+    put_xml(out, reported.submission);
+    put_counts(out, row);
+    put_properties(out, row);
     for case in row.cases.iter() {
-        push_case(alloc, out, reported.submission, case)?;
+        put_case(out, reported.submission, case);
     }
     if row.cases.is_empty() {
-        let message = why_of(alloc, row, 0)?;
-        push_test(alloc, out, reported.submission, NO_CASE)?;
-        push_outcome(alloc, out, row.kind, &message)?;
+        let message = why_of(out.alloc(), row, 0);
+        put_test(out, reported.submission, NO_CASE);
+        put_outcome(out, row.kind, message);
     }
-    out.push_str("</testsuite>\n")
+    out.put("</testsuite>\n");
+}
+
+/// Adds how many test cases a submission has, and how many of each class.
+fn put_counts(out: &mut TextWriter, row: &GradeRow) {
+    put_count(out, "\" tests=\"", row.cases.len().max(1));
+    put_count(out, "\" failures=\"", count_of(row, ReportClass::Failed));
+    put_count(out, "\" errors=\"", count_of(row, ReportClass::NotRun));
+    put_count(out, "\" skipped=\"", count_of(row, ReportClass::Skipped));
+    out.put("\">\n");
+}
+
+/// Adds the front of an attribute, and its number.
+fn put_count(out: &mut TextWriter, front: &str, count: usize) {
+    out.put(front);
+    out.put_number(count as u64);
 }
 
 /// How many test cases of a submission are of a class.
@@ -72,23 +73,28 @@ fn count_of(row: &GradeRow, class: ReportClass) -> usize {
 }
 
 /// Adds how many points there are for each case, and which are hidden.
-fn push_properties(alloc: Global, out: &mut String, row: &GradeRow) -> Result<(), AllocError> {
+fn put_properties(out: &mut TextWriter, row: &GradeRow) {
     if row.cases.is_empty() {
-        return Ok(());
+        return;
     }
-    out.push_str("<properties>\n")?;
+    out.put("<properties>\n");
     for case in row.cases.iter() {
-        let points = case.points;
-        out.push_str("<property name=\"points ")?;
-        push_xml(alloc, out, name_of(case))?;
-        write!(out, "\" value=\"{points}\"/>\n")?;
-        if case.is_hidden {
-            out.push_str("<property name=\"hidden ")?;
-            push_xml(alloc, out, name_of(case))?;
-            out.push_str("\" value=\"true\"/>\n")?;
-        }
+        put_properties_of(out, case);
     }
-    out.push_str("</properties>\n")
+    out.put("</properties>\n");
+}
+
+/// Adds how many points there are for a case, and whether it is hidden.
+fn put_properties_of(out: &mut TextWriter, case: &CaseRow) {
+    out.put("<property name=\"points ");
+    put_xml(out, name_of(case));
+    put_count(out, "\" value=\"", case.points as usize);
+    out.put("\"/>\n");
+    if case.is_hidden {
+        out.put("<property name=\"hidden ");
+        put_xml(out, name_of(case));
+        out.put("\" value=\"true\"/>\n");
+    }
 }
 
 /// What a case is called.
@@ -100,48 +106,38 @@ fn name_of(case: &CaseRow) -> &str {
 }
 
 /// Adds the test case of a submission that a case is: of a hidden case the verdict alone.
-fn push_case(
-    alloc: Global,
-    out: &mut String,
-    submission: &str,
-    case: &CaseRow,
-) -> Result<(), AllocError> {
+fn put_case(out: &mut TextWriter, submission: &str, case: &CaseRow) {
     let student = row_for_student(case);
     let message = match student.shown {
-        Some(shown) => reason_by_case(alloc, shown)?,
-        None => String::from_str(alloc, "a hidden case")?,
+        Some(shown) => reason_by_case(out.alloc(), shown),
+        None => String::from_str(out.alloc(), "a hidden case"),
     };
-    push_test(alloc, out, submission, name_of(case))?;
-    push_outcome(alloc, out, student.kind, &message)
+    put_test(out, submission, name_of(case));
+    put_outcome(out, student.kind, message);
 }
 
 /// Adds the front of a test case of this name.
-fn push_test(
-    alloc: Global,
-    out: &mut String,
-    submission: &str,
-    name: &str,
-) -> Result<(), AllocError> {
-    out.push_str("<testcase classname=\"")?;
-    push_xml(alloc, out, submission)?;
-    out.push_str("\" name=\"")?;
-    push_xml(alloc, out, name)
+fn put_test(out: &mut TextWriter, submission: &str, name: &str) {
+    out.put("<testcase classname=\"");
+    put_xml(out, submission);
+    out.put("\" name=\"");
+    put_xml(out, name);
 }
 
-/// Adds what came of a test case, and its end.
-fn push_outcome(
-    alloc: Global,
-    out: &mut String,
-    kind: VerdictKind,
-    message: &str,
-) -> Result<(), AllocError> {
+/// Adds what came of a test case, with the message that was made for it, and its end.
+fn put_outcome(out: &mut TextWriter, kind: VerdictKind, message: Result<String, AllocError>) {
     let Some(element) = element_of(ReportClass::of(kind)) else {
-        return out.push_str("\"/>\n");
+        out.put("\"/>\n");
+        return;
     };
-    let word = kind.word();
-    write!(out, "\"><{element} type=\"{word}\" message=\"")?;
-    push_xml(alloc, out, message)?;
-    out.push_str("\"/></testcase>\n")
+    out.put("\"><");
+    out.put(element);
+    out.put_all(&[" type=\"", kind.word(), "\" message=\""]);
+    match message {
+        Ok(message) => put_xml(out, &message),
+        Err(_) => out.lack_piece(),
+    }
+    out.put("\"/></testcase>\n");
 }
 
 /// The element of a test case of this class; None of one that is passed.
@@ -156,29 +152,36 @@ fn element_of(class: ReportClass) -> Option<&'static str> {
 
 /// Adds a text as the value of an attribute, cut after 100,000 characters. A control byte, and a character that XML does
 /// not have, is written as its escape.
-fn push_xml(alloc: Global, out: &mut String, text: &str) -> Result<(), AllocError> {
+fn put_xml(out: &mut TextWriter, text: &str) {
     let front = front_of(text, LONGEST_ATTRIBUTE);
-    push_escaped(out, &plain(alloc, front)?)?;
-    if front.len() < text.len() {
-        out.push_str("..")?;
+    match plain(out.alloc(), front) {
+        Ok(front) => put_escaped(out, &front),
+        Err(_) => out.lack_piece(),
     }
-    Ok(())
+    if front.len() < text.len() {
+        out.put("..");
+    }
 }
 
 /// Adds a text without control bytes as the value of an attribute.
-fn push_escaped(out: &mut String, text: &str) -> Result<(), AllocError> {
+fn put_escaped(out: &mut TextWriter, text: &str) {
     for letter in text.chars() {
-        match letter {
-            '&' => out.push_str("&amp;")?,
-            '<' => out.push_str("&lt;")?,
-            '>' => out.push_str("&gt;")?,
-            '"' => out.push_str("&quot;")?,
-            '\u{fffe}' | '\u{ffff}' => {
-                let code = letter as u32;
-                write!(out, "\\u{code:x}")?
-            }
-            other => out.push(other)?,
+        match escape_of(letter) {
+            Some(escape) => out.put(escape),
+            None => out.put_letter(letter),
         }
     }
-    Ok(())
+}
+
+/// What is written for a character that XML does not have as it is.
+fn escape_of(letter: char) -> Option<&'static str> {
+    match letter {
+        '&' => Some("&amp;"),
+        '<' => Some("&lt;"),
+        '>' => Some("&gt;"),
+        '"' => Some("&quot;"),
+        '\u{fffe}' => Some("\\ufffe"),
+        '\u{ffff}' => Some("\\uffff"),
+        _ => None,
+    }
 }

@@ -1,12 +1,12 @@
 //! Verdicts as Moodle's grading table.
 
 use crate::case_scores::{earned_points, has_all_scores};
-use crate::cells::push_csv_cell;
-use crate::feedback::push_verdicts;
+use crate::cells::put_csv_cell;
+use crate::feedback::put_verdicts;
 use crate::reports::ReportedRow;
-use crate::rows::GradeRow;
+use grade_rows::GradeRow;
 use lab_requests::Undecided;
-use plain_text::plain;
+use plain_text::{TextWriter, plain};
 use std::alloc::{AllocError, Global};
 
 /// The columns of the table, by the names that Moodle looks for. It finds a student by the first one, and takes no table
@@ -51,35 +51,52 @@ fn is_number(text: &str) -> bool {
 }
 
 /// Adds the line of a submission. Its grade is empty where a case has no score.
-pub(crate) fn push_moodle(
-    alloc: Global,
-    out: &mut String,
-    reported: &ReportedRow<'_>,
-) -> Result<(), AllocError> {
+pub(crate) fn put_moodle(out: &mut TextWriter, reported: &ReportedRow<'_>) {
     let participant = participant_of(reported.submission);
-    let mut identifier = String::new(alloc);
-    if !participant.number.is_empty() {
-        identifier.push_str("Participant ")?;
-        identifier.push_str(participant.number)?;
+    put_identifier(out, participant.number);
+    out.put(",");
+    put_csv_text(out, plain(out.alloc(), participant.name));
+    out.put(",");
+    put_grade(out, reported.form.undecided, reported.row);
+    out.put(",\"");
+    out.put_number(reported.form.points);
+    out.put_all(&["\",", NO_DATE, ","]);
+    let comments = comments_of(out.alloc(), reported);
+    put_csv_text(out, comments);
+    out.put("\r\n");
+}
+
+/// Adds the cell of Moodle's number of a submission, where it has one.
+fn put_identifier(out: &mut TextWriter, number: &str) {
+    out.put("\"");
+    if !number.is_empty() {
+        out.put("Participant ");
+        out.put(number);
     }
-    push_csv_cell(out, &identifier)?;
-    out.push_str(",")?;
-    push_csv_cell(out, &plain(alloc, participant.name)?)?;
-    out.push_str(",")?;
-    push_grade(out, reported.form.undecided, reported.row)?;
-    let points = reported.form.points;
-    write!(out, ",\"{points}\",{NO_DATE},")?;
-    let mut comments = String::new(alloc);
-    push_verdicts(alloc, &mut comments, reported.form.undecided, reported.row)?;
-    push_csv_cell(out, comments.trim_end())?;
-    out.push_str("\r\n")
+    out.put("\"");
+}
+
+/// Adds a text that was made as a cell, unless memory was refused for it.
+fn put_csv_text(out: &mut TextWriter, made: Result<String, AllocError>) {
+    match made {
+        Ok(text) => put_csv_cell(out, &text),
+        Err(_) => out.lack_piece(),
+    }
+}
+
+/// What a student is said of each case, without the end of the last line.
+fn comments_of(alloc: Global, reported: &ReportedRow<'_>) -> Result<String, AllocError> {
+    let mut comments = TextWriter::new(alloc);
+    put_verdicts(&mut comments, reported.form.undecided, reported.row);
+    let comments = comments.take_text()?;
+    String::from_str(alloc, comments.trim_end())
 }
 
 /// Adds the sum of the points of a submission; nothing where a case has no score.
-fn push_grade(out: &mut String, undecided: Undecided, row: &GradeRow) -> Result<(), AllocError> {
-    if !has_all_scores(undecided, &row.cases) {
-        return out.push_str("\"\"");
+fn put_grade(out: &mut TextWriter, undecided: Undecided, row: &GradeRow) {
+    out.put("\"");
+    if has_all_scores(undecided, &row.cases) {
+        out.put_number(earned_points(undecided, &row.cases));
     }
-    let earned = earned_points(undecided, &row.cases);
-    write!(out, "\"{earned}\"")
+    out.put("\"");
 }

@@ -1,9 +1,9 @@
 //! What a verdict counts as in the reports that other programs read.
 
-use judgements::VerdictKind;
+use grade_rows::judges::VerdictKind;
 
 /// What a verdict counts as in the reports that other programs read.
-#[derive(Clone, Copy, Debug, PartialEq, Eq)]
+#[derive(Clone, Copy, PartialEq, Eq)]
 pub(crate) enum ReportClass {
     /// The submission is right.
     Passed,

@@ -1,27 +1,15 @@
 //! The verdicts on all submissions, written as is asked for.
 
 use crate::gradescope_report::gradescope_report;
-use crate::json_report::push_json;
+use crate::json_report::put_json;
 use crate::junit_report::junit_report;
-use crate::moodle_report::{MOODLE_COLUMNS, push_moodle};
-use crate::rows::GradeRow;
-use crate::text_report::push_row;
-use crate::tsv_report::push_tsv;
-use lab_requests::{GradeFormat, Undecided};
+use crate::moodle_report::{MOODLE_COLUMNS, put_moodle};
+use crate::text_report::put_row;
+use crate::tsv_report::put_tsv;
+use grade_rows::{GradeRow, ReportForm};
+use lab_requests::GradeFormat;
+use plain_text::TextWriter;
 use std::alloc::{AllocError, Global};
-
-/// How submissions are reported, and what by.
-#[derive(Clone, Copy, Debug)]
-pub struct ReportForm {
-    /// The format.
-    pub format: GradeFormat,
-    /// How a case counts that is not decided.
-    pub undecided: Undecided,
-    /// How many cases have a name.
-    pub named: usize,
-    /// How many points there are for all cases.
-    pub points: u64,
-}
 
 /// A submission, what is said of it, and how it is reported.
 #[derive(Clone, Copy)]
@@ -45,15 +33,15 @@ pub fn head_of(format: GradeFormat) -> &'static str {
 
 /// The lines of one submission; nothing in a format that is written as a whole.
 pub fn lines_of(alloc: Global, reported: &ReportedRow<'_>) -> Result<String, AllocError> {
-    let mut out = String::new(alloc);
+    let mut out = TextWriter::new(alloc);
     match reported.form.format {
-        GradeFormat::Text => push_row(alloc, &mut out, reported)?,
-        GradeFormat::Tsv => push_tsv(alloc, &mut out, reported)?,
-        GradeFormat::Json => push_json(alloc, &mut out, reported)?,
-        GradeFormat::Moodle => push_moodle(alloc, &mut out, reported)?,
+        GradeFormat::Text => put_row(&mut out, reported),
+        GradeFormat::Tsv => put_tsv(&mut out, reported),
+        GradeFormat::Json => put_json(&mut out, reported),
+        GradeFormat::Moodle => put_moodle(&mut out, reported),
         GradeFormat::Junit | GradeFormat::Gradescope => {}
     }
-    Ok(out)
+    out.take_text()
 }
 
 /// What is written of all submissions, in their order, after the lines of each: in a format that is written as a whole

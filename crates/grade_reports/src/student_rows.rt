@@ -2,8 +2,8 @@
 
 ghost use Rattle.std.specs.Prelude.{◌≡◌, IsTrue, IsFalse, MatchOption};
 
-use crate::rows::CaseRow;
-use judgements::VerdictKind;
+use grade_rows::CaseRow;
+use grade_rows::judges::VerdictKind;
 
 /// What a student may see of a case. All texts for students are made of this.
 #[derive(Clone, Copy)]

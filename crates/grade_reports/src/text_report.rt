@@ -1,60 +1,64 @@
 //! Rows in words.
 
-use crate::cells::{push_cell, push_list};
-use crate::reasons::{push_witness, why_of};
+use crate::cells::{put_cell, put_made};
 use crate::reports::ReportedRow;
-use crate::rows::CountedEnd;
-use plain_text::push_plain;
-use std::alloc::{AllocError, Global};
+use grade_rows::{CountedEnd, put_plain_list, put_witness, reason_of};
+use plain_text::TextWriter;
 
 /// Adds the row of a submission, and a line for each of its ends, where they are counted.
-pub(crate) fn push_row(
-    alloc: Global,
-    out: &mut String,
-    reported: &ReportedRow<'_>,
-) -> Result<(), AllocError> {
+pub(crate) fn put_row(out: &mut TextWriter, reported: &ReportedRow<'_>) {
     let row = reported.row;
-    push_cell(out, reported.submission)?;
-    let word = row.kind.word();
-    write!(out, "\t{word}\t")?;
-    push_plain(out, &why_of(alloc, row, reported.form.named)?)?;
-    out.push_str("\n")?;
-    push_ends(alloc, out, &row.ends)
+    put_cell(out, reported.submission);
+    out.put("\t");
+    out.put(row.kind.word());
+    out.put("\t");
+    put_made(out, reason_of(out.alloc(), row, reported.form.named));
+    out.put("\n");
+    put_ends(out, &row.ends);
 }
 
 /// Adds a line for each of the ends, their counts in one column.
-fn push_ends(alloc: Global, out: &mut String, ends: &[CountedEnd]) -> Result<(), AllocError> {
-    let most = ends.iter().map(|end| end.count).max().unwrap_or(0);
-    let width = format!(in alloc; "{most}")?.len();
+fn put_ends(out: &mut TextWriter, ends: &[CountedEnd]) {
+    let mut most: usize = 0;
     for end in ends {
-        push_end(alloc, out, width, end)?;
+        most = most.max(end.count);
     }
-    Ok(())
+    let width = width_of(out, most);
+    for end in ends {
+        put_end(out, width, end);
+    }
+}
+
+/// How many decimal digits a number has.
+fn width_of(out: &mut TextWriter, number: usize) -> usize {
+    let alloc = out.alloc();
+    match format!(in alloc; "{number}") {
+        Ok(digits) => digits.len(),
+        Err(_) => {
+            out.lack_piece();
+            0
+        }
+    }
 }
 
 /// Adds the line of ends that are counted as one.
-fn push_end(
-    alloc: Global,
-    out: &mut String,
-    width: usize,
-    end: &CountedEnd,
-) -> Result<(), AllocError> {
-    let count = end.count;
-    let kind = match end.kind {
+fn put_end(out: &mut TextWriter, width: usize, end: &CountedEnd) {
+    out.put("  ");
+    out.put_right(end.count as u64, width);
+    out.put("  ");
+    out.put(match end.kind {
         Some(kind) => kind.name(),
         None => "broken",
-    };
-    write!(out, "  {count:>width$}  {kind}  ")?;
-    push_witness(alloc, out, &end.witness)?;
+    });
+    out.put("  ");
+    put_witness(out, &end.witness);
     if !end.text.is_empty() {
-        out.push_str("   ")?;
-        let mut text = String::new(alloc);
-        push_list(&mut text, &end.text)?;
-        push_plain(out, &text)?;
+        out.put("   ");
+        put_plain_list(out, &end.text);
     }
     if let Some(missed) = &end.missed {
-        out.push_str("   NOT as expected: ")?;
-        push_plain(out, &missed.text)?;
+        out.put("   NOT as expected: ");
+        out.put_plain(&missed.text);
     }
-    out.push_str("\n")
+    out.put("\n");
 }

@@ -1,4 +1,4 @@
-//! The faults of what stands behind a header.
+//! The faults of what follows a header.
 
 ghost use Rattle.std.specs.Prelude.{◌≡◌, ◌*◌, ◌<◌, ◌≤◌, length, IfSome};
 ghost use Rattle.image_file.specs.Header.{header_at};

@@ -88,7 +88,7 @@ impl Image {
         self.slim
     }
 
-    /// How often a blocked reference is tried again before it traps; 0 for ever.
+    /// How often a blocked reference is tried again before it traps; 0 for no limit.
     pub fn retry_limit(&self) -> u32
         ensures { result ≡ self.now.retry_limit }
     {

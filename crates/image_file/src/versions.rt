@@ -31,7 +31,7 @@ pub(crate) fn profile_of_version(version: u16) -> Option<Profile>
     }
 }
 
-/// Where the retry limit stands, and behind it the trap entry and the numbers of program and data words.
+/// Where the retry limit stands, and after it the trap entry and the numbers of program and data words.
 pub(crate) fn tail_place(profile: Profile) -> usize
     ensures is { result ≡ tail_place profile }
     ensures few { result ≤ 12 }

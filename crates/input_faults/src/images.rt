@@ -27,7 +27,7 @@ pub fn image_fault_words(
     ensures line { IfOk result (λ message. message.line ≡ 1) }
 {
     let mut words = TextWriter::new(alloc);
-    let FaultPlace { place, width, help } = tell_fault(&mut words, bytes, fault);
+    let FaultPlace { place, width, help } = report_fault(&mut words, bytes, fault);
     Ok(Message {
         severity: Severity::Error,
         number: None,
@@ -41,10 +41,10 @@ pub fn image_fault_words(
 }
 
 /// Adds the words for a fault, and answers where it stands.
-fn tell_fault(words: &mut TextWriter, bytes: &[u8], fault: ImageFault) -> FaultPlace {
+fn report_fault(words: &mut TextWriter, bytes: &[u8], fault: ImageFault) -> FaultPlace {
     let layout = HeaderCounts::of(bytes);
     match fault {
-        ImageFault::Short => tell_short(words, bytes.len()),
+        ImageFault::Short => report_short(words, bytes.len()),
         ImageFault::Magic => {
             words.put("the file does not begin with the letters MTAP");
             FaultPlace {
@@ -53,10 +53,10 @@ fn tell_fault(words: &mut TextWriter, bytes: &[u8], fault: ImageFault) -> FaultP
                 help: "it is no image: sources are assembled first",
             }
         }
-        ImageFault::Version => tell_version(words, bytes),
-        ImageFault::Count(field) => layout.tell_count(words, bytes, field),
-        ImageFault::Entry(processor) => layout.tell_entry(words, bytes, processor),
-        ImageFault::TagByte(word) => layout.tell_tags(words, bytes, word),
+        ImageFault::Version => report_version(words, bytes),
+        ImageFault::Count(field) => layout.report_count(words, bytes, field),
+        ImageFault::Entry(processor) => layout.report_entry(words, bytes, processor),
+        ImageFault::TagByte(word) => layout.report_tags(words, bytes, word),
         ImageFault::Trailing => {
             words.put("bytes follow the last data word");
             FaultPlace {
@@ -77,7 +77,7 @@ fn tell_fault(words: &mut TextWriter, bytes: &[u8], fault: ImageFault) -> FaultP
 }
 
 /// Adds that a file of so many bytes ends too soon.
-fn tell_short(words: &mut TextWriter, length: usize) -> FaultPlace {
+fn report_short(words: &mut TextWriter, length: usize) -> FaultPlace {
     words.put("the file ends too soon, after ");
     words.put_number(length as u64);
     words.put_all(&[" byte", plural(length)]);
@@ -89,7 +89,7 @@ fn tell_short(words: &mut TextWriter, length: usize) -> FaultPlace {
 }
 
 /// Adds that the version is none of those that there are.
-fn tell_version(words: &mut TextWriter, bytes: &[u8]) -> FaultPlace {
+fn report_version(words: &mut TextWriter, bytes: &[u8]) -> FaultPlace {
     words.put("the version is ");
     words.put_number(u64::from(number_at(bytes, 4, 2)));
     words.put(", and not 1 or 2");
@@ -134,7 +134,7 @@ impl HeaderCounts {
     }
 
     /// Adds that one of the counts is out of its limits.
-    fn tell_count(self, words: &mut TextWriter, bytes: &[u8], field: CountField) -> FaultPlace {
+    fn report_count(self, words: &mut TextWriter, bytes: &[u8], field: CountField) -> FaultPlace {
         let counts = usize::from(self.header).saturating_sub(8);
         let (place, width, name, limits) = match field {
             CountField::Processors => (6, 2, "number of processors", "1 to 16"),
@@ -161,7 +161,7 @@ impl HeaderCounts {
     }
 
     /// Adds that a processor begins past the program.
-    fn tell_entry(self, words: &mut TextWriter, bytes: &[u8], processor: u8) -> FaultPlace {
+    fn report_entry(self, words: &mut TextWriter, bytes: &[u8], processor: u8) -> FaultPlace {
         let place = usize::from(self.header) + 4 * usize::from(processor);
         words.put("processor ");
         words.put_number(u64::from(processor));
@@ -178,7 +178,7 @@ impl HeaderCounts {
     }
 
     /// Adds that the tags of a data word are none.
-    fn tell_tags(self, words: &mut TextWriter, bytes: &[u8], word: u32) -> FaultPlace {
+    fn report_tags(self, words: &mut TextWriter, bytes: &[u8], word: u32) -> FaultPlace {
         let place = self.cells_place() + 9 * word as usize + 8;
         words.put("data word ");
         words.put_number(u64::from(word));

@@ -153,21 +153,21 @@ fn layout_fault<'t>(token: Token<'t>) -> Option<LayoutFault<'t>> {
     }
     if let Some(place) = find_either(token.bytes, b';', b'#') {
         return Some(LayoutFault {
-            marked: token.behind(place),
+            marked: token.after(place),
             words: "a schedule has no comments",
             help: "take the comment out",
         });
     }
     if let (front, Some(_)) = token.cut(b'\t') {
         return Some(LayoutFault {
-            marked: token.behind(front.bytes.len()).before(1),
+            marked: token.after(front.bytes.len()).before(1),
             words: "a tab stands here",
             help: "single spaces stand between numbers",
         });
     }
     let place = blank_place(token)?;
     Some(LayoutFault {
-        marked: token.behind(place).before(1),
+        marked: token.after(place).before(1),
         words: "one space too many",
         help: "single spaces stand between numbers",
     })

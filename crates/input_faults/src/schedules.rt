@@ -28,8 +28,8 @@ pub fn check_schedule(
     let mut warnings = Notes::new(alloc);
     note_lines(&mut faults, &mut warnings, Streams::of(alloc, image)?, text)?;
     let mut messages = Vec::new(alloc);
-    tell_faults(faults, refusal_of(alloc, text)?, &mut messages)?;
-    warnings.tell(Severity::Warning, &mut messages)?;
+    report_faults(faults, refusal_of(alloc, text)?, &mut messages)?;
+    warnings.report(Severity::Warning, &mut messages)?;
     in_order(messages)
 }
 
@@ -50,7 +50,7 @@ fn refusal_of(alloc: Global, text: &[u8]) -> Result<Option<ScheduleFault>, Alloc
 }
 
 /// Reports the faults of a text that is refused for one.
-fn tell_faults(
+fn report_faults(
     faults: Notes,
     refusal: Option<ScheduleFault>,
     messages: &mut Vec<Message>,
@@ -61,7 +61,7 @@ fn tell_faults(
         return Ok(());
     };
     let faults = with_fault(faults, fault)?;
-    faults.tell(Severity::Error, messages)
+    faults.report(Severity::Error, messages)
 }
 
 /// The faults that are found, or this one where none is.

@@ -14,7 +14,7 @@ const PAIRS: usize = 65_536;
 pub(crate) struct Streams {
     processors: usize,
     slim: u16,
-    told: Vec<bool>,
+    reported: Vec<bool>,
 }
 
 impl Streams {
@@ -24,12 +24,12 @@ impl Streams {
             Some(image) => Streams {
                 processors: image.processors(),
                 slim: image.slim(),
-                told: vec![in alloc; false; PAIRS]?,
+                reported: vec![in alloc; false; PAIRS]?,
             },
             None => Streams {
                 processors: 256,
                 slim: 256,
-                told: Vec::new(alloc),
+                reported: Vec::new(alloc),
             },
         })
     }
@@ -47,7 +47,7 @@ impl Streams {
             ..
         } = fields;
         let is_there = usize::from(processor) < self.processors && u16::from(stream) < self.slim;
-        if is_there || self.is_told(processor, stream) {
+        if is_there || self.is_reported(processor, stream) {
             return Ok(());
         }
         if usize::from(processor) < self.processors {
@@ -58,12 +58,12 @@ impl Streams {
     }
 
     /// Whether a stream was reported already; from now on it is.
-    fn is_told(&mut self, processor: u8, stream: u8) -> bool {
+    fn is_reported(&mut self, processor: u8, stream: u8) -> bool {
         let place = usize::from(processor) * 256 + usize::from(stream);
-        if place < self.told.len() {
-            let is_told = self.told[place];
-            self.told[place] = true;
-            is_told
+        if place < self.reported.len() {
+            let is_reported = self.reported[place];
+            self.reported[place] = true;
+            is_reported
         } else {
             false
         }

@@ -54,7 +54,7 @@ pub(crate) fn digits_8(number: i8) -> u64
     u64::from(number.cast_unsigned())
 }
 
-/// The digits with a further field of `width` digits behind them.
+/// The digits followed by a further field of `width` digits.
 pub(crate) fn with_field(bits: u64, width: u32, value: u64) -> u64
     requires { width < 64 }
     ensures { bits * 2 ^ width < 2 ^ 64 → value < 2 ^ width → result ≡ bits * 2 ^ width + value }

@@ -252,7 +252,7 @@ pub enum ControlOp {
     Reserve = 8,
     /// CREATE: starts a stream at the pc of target `t` with the value of `ra`.
     Create = 9,
-    /// QUIT: the stream becomes idle, its reservation is given back.
+    /// QUIT: the stream becomes idle, its reservation is released.
     Quit = 10,
     /// QUITP: the stream becomes idle, its reservation is kept.
     QuitKeep = 11,

@@ -57,7 +57,7 @@ pub struct ReferencePart {
     pub rd: u8,
     /// The register (0 to 31) that holds the pointer.
     pub base: u8,
-    /// How many words behind the pointer, -32 to 31.
+    /// How many words after the pointer, -32 to 31.
     pub disp: i8,
 }
 

@@ -3,11 +3,11 @@
 use crate::loading::{Loaded, load};
 use crate::transport::Transport;
 use adapter_messages::{Client, DapCommand, DapRequest, Flow, greet, say_launched};
+use command_parts::texts::ProgramNames;
 use command_parts::{LabFault, Status};
 use debug_adapter::{Adapter, LaunchRequest, Origin, launch_of};
 use editor_wire::{EndMark, Inbox, bounded_inbox, has_begun, has_second_thread, read_if_first};
 use lab_debugger::named_of;
-use lab_texts::ProgramNames;
 use std::alloc::Global;
 use std::io::{Read, Write};
 use std::marker::Send;

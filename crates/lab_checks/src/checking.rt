@@ -32,18 +32,18 @@ pub fn check<F: Files, R: Read>(
         Some(path) => Some(read_program(alloc, inputs, path)?),
         None => None,
     };
-    let mut told = String::new(alloc);
+    let mut printed = String::new(alloc);
     let mut status = Status::Done;
     for path in &request.files {
-        let found = check_file(alloc, inputs, request, program.as_ref(), path, &mut told)?;
+        let found = check_file(alloc, inputs, request, program.as_ref(), path, &mut printed)?;
         status = status.worse(found);
     }
     if request.json {
-        return Ok(CommandAnswer::printed(alloc, told, status));
+        return Ok(CommandAnswer::printed(alloc, printed, status));
     }
     Ok(CommandAnswer {
         output: String::new(alloc),
-        errors: told,
+        errors: printed,
         status,
         fault: None,
     })
@@ -74,20 +74,20 @@ fn check_file<F: Files, R: Read>(
     request: &CheckRequest,
     program: Option<&Program>,
     path: &str,
-    told: &mut String,
+    printed: &mut String,
 ) -> Result<Status, LabFault> {
     let bytes = inputs.read(alloc, path)?;
     let kind = kind_of(request.kind, path, &bytes);
     let CheckedFile { text, messages } = judge(alloc, kind, bytes, program)?;
     match (text, request.json) {
         (CheckedText::Source(source), true) => {
-            push_source_objects(alloc, told, path, source.ascii(), &messages)?
+            push_source_objects(alloc, printed, path, source.ascii(), &messages)?
         }
-        (CheckedText::Other(_), true) => push_objects(alloc, told, path, &messages)?,
+        (CheckedText::Other(_), true) => push_objects(alloc, printed, path, &messages)?,
         (CheckedText::Source(source), false) => {
-            push_messages(alloc, told, path, &source.into_written(), &messages)?
+            push_messages(alloc, printed, path, &source.into_written(), &messages)?
         }
-        (CheckedText::Other(text), false) => push_messages(alloc, told, path, &text, &messages)?,
+        (CheckedText::Other(text), false) => push_messages(alloc, printed, path, &text, &messages)?,
     }
     let is_right = messages.iter().all(|message| message.severity != Severity::Error
         && !request.strict);
@@ -101,14 +101,14 @@ fn check_file<F: Files, R: Read>(
 /// Adds messages about a file with this text as lines.
 fn push_messages(
     alloc: Global,
-    told: &mut String,
+    printed: &mut String,
     path: &str,
     text: &[u8],
     messages: &[Message],
 ) -> Result<(), AllocError> {
     let path = plain(alloc, path)?;
     for message in messages {
-        push_message(told, &path, text, message)?;
+        push_message(printed, &path, text, message)?;
     }
     Ok(())
 }

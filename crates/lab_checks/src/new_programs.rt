@@ -40,8 +40,8 @@ pub fn start_program<F: Files, R: Read>(
     )?;
     let (source, expected) = (plain(alloc, &source)?, plain(alloc, &expected)?);
     let about = first.about;
-    let told = format!(in alloc;
+    let printed = format!(in alloc;
         "{source}: {about}\n{expected}: what each of its ends has to be\nnext: mta_lab explore {source} --expect {expected}\n"
     )?;
-    Ok(CommandAnswer::printed(alloc, told, Status::Done))
+    Ok(CommandAnswer::printed(alloc, printed, Status::Done))
 }

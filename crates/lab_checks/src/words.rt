@@ -2,7 +2,7 @@
 
 use command_parts::{CommandAnswer, LabFault, Status};
 use fault_messages::{Severity, push_message};
-use lab_words::{explained, instruction_told, source_of};
+use lab_words::{explained, instruction_description, source_of};
 use source_faults::check_source;
 use std::alloc::{AllocError, Global};
 
@@ -27,8 +27,8 @@ pub fn explain(alloc: Global, words: &[&str]) -> Result<CommandAnswer, LabFault>
 /// What an instruction word says, by its hexadecimal digits or by its text, whose words these are.
 pub fn show_word(alloc: Global, words: &[&str]) -> Result<CommandAnswer, LabFault> {
     let text = words_in_line(alloc, words)?;
-    match instruction_told(alloc, text.as_str())? {
-        Some(told) => Ok(CommandAnswer::printed(alloc, told, Status::Done)),
+    match instruction_description(alloc, text.as_str())? {
+        Some(printed) => Ok(CommandAnswer::printed(alloc, printed, Status::Done)),
         None => Err(LabFault::Lines(faults_of(alloc, text.as_str())?)),
     }
 }

@@ -1,7 +1,7 @@
 //! Words of other debuggers, as of gdb.
 
 use crate::debug_words::DebugWord;
-use lab_texts::TextWriter;
+use printed_lines::parts::texts::TextWriter;
 
 /// Other names of the words.
 const ALIASES: [(&str, DebugWord); 32] = [

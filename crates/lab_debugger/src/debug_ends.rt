@@ -1,12 +1,12 @@
 //! How the run of a session ends.
 
 use crate::debug_repl::DebugRepl;
-use command_parts::LabFault;
 use debug_commands::Command;
 use end_kinds::EndKind;
 use lab_ends::RunFindings;
-use lab_texts::{NumberStyle, TextWriter, end_of, put_differing_words, put_end};
 use machine::Machine;
+use printed_lines::parts::LabFault;
+use printed_lines::parts::texts::{NumberStyle, TextWriter, end_of, put_differing_words, put_end};
 use step_views::StepView;
 use whole_runs::run_views;
 
@@ -28,7 +28,7 @@ impl<'a, 'i, 't, const S: usize> DebugRepl<'a, 'i, 't, S> {
     /// a run that could go on, only if that is shown too.
     pub(crate) fn put_end_here(
         &mut self,
-        is_unfinished_told: bool,
+        is_unfinished_shown: bool,
         out: &mut TextWriter,
     ) -> Result<(), LabFault> {
         if self.named.session.next_step().is_some() {
@@ -36,7 +36,7 @@ impl<'a, 'i, 't, const S: usize> DebugRepl<'a, 'i, 't, S> {
         }
         let run = self.run_here()?;
         let end = end_of(self.alloc, &run.machine, &run.views)?;
-        if end.kind == EndKind::OutOfSteps && !is_unfinished_told {
+        if end.kind == EndKind::OutOfSteps && !is_unfinished_shown {
             return Ok(());
         }
         let style = NumberStyle::Decimal;

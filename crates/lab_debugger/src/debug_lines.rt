@@ -1,6 +1,6 @@
 //! The lines of standard input, each before the next is read.
 
-use command_parts::LabFault;
+use printed_lines::parts::LabFault;
 use std::alloc::Global;
 use std::io::Read;
 use std::str;

@@ -1,9 +1,9 @@
 //! The points of `debug`.
 
 use crate::debug_repl::{DebugRepl, refuse};
-use command_parts::LabFault;
 use debug_commands::{Answer, Command, DebugFault};
-use lab_texts::{ProgramNames, TextWriter};
+use printed_lines::parts::LabFault;
+use printed_lines::parts::texts::{ProgramNames, TextWriter};
 use replay_debugger::Point;
 
 impl<'a, 'i, 't, const S: usize> DebugRepl<'a, 'i, 't, S> {

@@ -2,8 +2,8 @@
 
 use crate::debug_points::is_named_word;
 use crate::debug_repl::DebugRepl;
-use command_parts::LabFault;
-use lab_texts::{Notation, NumberStyle, TextWriter};
+use printed_lines::parts::LabFault;
+use printed_lines::parts::texts::{Notation, NumberStyle, TextWriter};
 use value_reasons::{LocationFault, Reason, location_named, put_location_fault};
 
 impl<'a, 'i, 't, const S: usize> DebugRepl<'a, 'i, 't, S> {

@@ -3,8 +3,8 @@
 use crate::debug_points::is_named_word;
 use crate::debug_repl::DebugRepl;
 use crate::debug_shows::NO_STREAM;
-use command_parts::LabFault;
-use lab_texts::{NumberStyle, TextWriter, put_stream_part, put_word};
+use printed_lines::parts::LabFault;
+use printed_lines::parts::texts::{NumberStyle, TextWriter, put_stream_part, put_word};
 use processor::Step;
 use step_views::{Content, Place, StreamPart};
 

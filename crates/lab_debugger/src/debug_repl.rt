@@ -3,12 +3,12 @@
 use crate::debug_stops::OwnStops;
 use crate::debug_tries::Dropped;
 use crate::debug_words::{DebugWord, debug_word, put_help, put_no_word};
-use command_parts::LabFault;
 use debug_commands::{Answer, Command, DebugFault, Why};
-use lab_texts::{
+use named_session::{LastStep, NamedSession, UserName, fault_words, read_name};
+use printed_lines::parts::LabFault;
+use printed_lines::parts::texts::{
     Columns, Notation, NumberStyle, ProgramNames, RunPieces, TextWriter, put_step_line,
 };
-use named_session::{LastStep, NamedSession, UserName, fault_words, read_name};
 use processor::Step;
 use std::alloc::Global;
 

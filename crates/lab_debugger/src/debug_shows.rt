@@ -2,11 +2,11 @@
 
 use crate::debug_points::is_named_word;
 use crate::debug_repl::{DebugRepl, ENDS_HERE, refuse};
-use command_parts::LabFault;
-use lab_texts::{
+use named_session::{UserName, read_name};
+use printed_lines::parts::LabFault;
+use printed_lines::parts::texts::{
     NumberStyle, ProgramNames, RunPieces, TextWriter, plural, turned_word, wanted_word,
 };
-use named_session::{UserName, read_name};
 use processor::Step;
 use step_views::{Content, Place, StreamPart};
 use waiting::{Wait, running_streams};

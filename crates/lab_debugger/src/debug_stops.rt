@@ -2,11 +2,11 @@
 
 use crate::debug_repl::{DebugRepl, refuse};
 use crate::debug_shows::NO_STREAM;
-use command_parts::LabFault;
 use debug_commands::{Answer, Command, Why};
-use lab_texts::{RunPieces, TextWriter};
 use machine::Machine;
 use named_session::{UserName, read_name};
+use printed_lines::parts::LabFault;
+use printed_lines::parts::texts::{RunPieces, TextWriter};
 use processor::Step;
 use std::alloc::{AllocError, Global};
 use stream_core::{Outcome, TrapKind};

@@ -2,10 +2,10 @@
 
 use crate::debug_repl::{DebugRepl, refuse};
 use crate::debug_shows::put_idle;
-use command_parts::LabFault;
 use debug_commands::Command;
-use lab_texts::{RunPieces, TextWriter, plural};
 use named_session::{UserName, read_name};
+use printed_lines::parts::LabFault;
+use printed_lines::parts::texts::{RunPieces, TextWriter, plural};
 use processor::Step;
 use stream_core::Status;
 

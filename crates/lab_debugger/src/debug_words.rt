@@ -1,7 +1,7 @@
 //! The words of `debug`.
 
 use crate::debug_aliases::{put_meant, word_of_alias};
-use lab_texts::TextWriter;
+use printed_lines::parts::texts::TextWriter;
 
 /// What a line of `debug` asks for.
 #[derive(Clone, Copy, PartialEq, Eq)]

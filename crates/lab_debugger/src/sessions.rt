@@ -1,7 +1,7 @@
 //! Sessions of programs' runs.
 
-use command_parts::{LabFault, Program};
 use named_session::NamedSession;
+use printed_lines::parts::{LabFault, Program};
 use processor::Step;
 use replay_debugger::Session;
 use source_places::SourcePlaces;

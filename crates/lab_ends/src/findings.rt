@@ -3,8 +3,8 @@
 use image_file::Image;
 use image_machines::loaded;
 use lab_texts::{
-    FindingsOfRun, MOST_STEPS_OF_TORN, Notation, NumberStyle, ProgramNames, Telling, TextWriter,
-    WordRange, push_first_finding, put_findings,
+    FindingTexts, FindingsOfRun, MOST_STEPS_OF_TORN, Notation, NumberStyle, ProgramNames,
+    TextWriter, WordRange, push_first_finding, put_findings,
 };
 use processor::Step;
 use run_findings::Action;
@@ -59,12 +59,12 @@ impl RunFindings {
 
     /// Adds what [`RunFindings::push`] does.
     pub fn put(&self, out: &mut TextWriter, names: &ProgramNames<'_>, style: NumberStyle) {
-        let telling = Telling {
+        let texts = FindingTexts {
             names,
             style,
             actions: &self.actions,
         };
-        put_findings(out, &telling, &self.found);
+        put_findings(out, &texts, &self.found);
         if !self.found.is_torn_sought {
             out.put("torn reads are looked for in runs of at most ");
             out.put_number(MOST_STEPS_OF_TORN as u64);
@@ -97,11 +97,11 @@ pub fn first_finding<const S: usize>(
     let mut out = String::new(alloc);
     let actions = actions_of::<S>(alloc, image, steps)?;
     let found = FindingsOfRun::of(alloc, &actions)?;
-    let telling = Telling {
+    let texts = FindingTexts {
         names: notation.names,
         style: notation.style,
         actions: &actions,
     };
-    push_first_finding(&mut out, &telling, &found, words)?;
+    push_first_finding(&mut out, &texts, &found, words)?;
     Ok(out)
 }

@@ -1,17 +1,18 @@
 //! Which sentence of an exercise's advice is said, and what is wrong with a file of advice.
 
-use crate::judging::{Judgement, THOROUGH};
-use exercise_advice::judges::Witness;
+use crate::judging::THOROUGH;
+use exercise_advice::judges::{CaseJudgement, Witness};
 use exercise_advice::{
     AdviceFault, AdviceFaultKind, AdviceLine, ShownMistake, first_fitting, observations_of,
     read_advice,
 };
+use exercise_files::parts::{LabFault, made_by};
 use image_file::Image;
 use lab_requests::Maker;
-use plain_text::plain;
+use plain_text::TextWriter;
 use processor::Step;
 use std::alloc::{AllocError, Global};
-use submission_rows::parts::{LabFault, made_by};
+use submission_rows::{DecidedByCase, JudgedAlone};
 
 /// What a line of advice looks like.
 const LINES: &str = "a line of advice is VERDICT: SENTENCE or VERDICT, FACT, ..: SENTENCE";
@@ -21,36 +22,46 @@ pub(crate) fn sentence_on(
     alloc: Global,
     path: &str,
     text: &[u8],
-    judgement: &Judgement,
+    judged: &JudgedAlone,
 ) -> Result<Option<String>, LabFault> {
-    let lines = match read_advice(alloc, text) {
-        Ok(lines) => lines,
-        Err(AdviceFault::NoMemory) => return Err(LabFault::NoMemory),
-        Err(AdviceFault::Line { number, kind, word }) => {
-            return Err(line_fault(alloc, path, number, kind, &word)?);
-        }
-    };
-    Ok(sentence_among(alloc, &lines, judgement)?)
+    match read_advice(alloc, text) {
+        Ok(lines) => sentence_among(alloc, &lines, judged),
+        Err(AdviceFault::NoMemory) => Err(LabFault::NoMemory),
+        Err(AdviceFault::Line { number, kind, word }) => Err(line_fault(
+            alloc, path, number, kind, &word,
+        )?),
+    }
 }
 
 /// The same, among the lines that were read.
 fn sentence_among(
     alloc: Global,
     lines: &[AdviceLine],
-    judgement: &Judgement,
-) -> Result<Option<String>, AllocError> {
-    let Some(decided) = &judgement.decided else {
+    judged: &JudgedAlone,
+) -> Result<Option<String>, LabFault> {
+    let Some(decided) = &judged.decided else {
         return Ok(None);
     };
     let Some(case) = decided.judgement.deciding() else {
         return Ok(None);
     };
-    let steps = steps_of(alloc, &decided.program.image, &judgement.row.witness)?;
+    let steps = steps_of(alloc, &decided.program.image, &judged.row.witness)?;
+    sentence_by_run(alloc, lines, decided, case, &steps)
+}
+
+/// The same, by the steps of the run that shows the mistake.
+fn sentence_by_run(
+    alloc: Global,
+    lines: &[AdviceLine],
+    decided: &DecidedByCase,
+    case: &CaseJudgement,
+    steps: &[Step],
+) -> Result<Option<String>, LabFault> {
     let shown = ShownMistake {
         image: &decided.program.image,
         required: &decided.required,
         judgement: case,
-        steps: &steps,
+        steps,
     };
     let seen = observations_of(alloc, shown)?;
     match first_fitting(lines, case.kind, &seen) {
@@ -64,7 +75,7 @@ fn sentence_at(
     alloc: Global,
     lines: &[AdviceLine],
     place: usize,
-) -> Result<Option<String>, AllocError> {
+) -> Result<Option<String>, LabFault> {
     match lines.get(place) {
         Some(line) => Ok(Some(String::from_str(alloc, &line.sentence)?)),
         None => Ok(None),
@@ -95,17 +106,36 @@ fn line_fault(
     kind: AdviceFaultKind,
     word: &str,
 ) -> Result<LabFault, AllocError> {
-    let path = plain(alloc, path)?;
-    let word = plain(alloc, word)?;
-    let words = match kind {
-        AdviceFaultKind::Bytes => String::from_str(alloc, "the line is no UTF-8")?,
-        AdviceFaultKind::Sentence => String::from_str(alloc, LINES)?,
+    let mut out = TextWriter::new(alloc);
+    out.put_plain(path);
+    out.put(":");
+    out.put_number(number as u64);
+    out.put(":1: error: ");
+    put_fault(&mut out, kind, word);
+    out.put("\n");
+    Ok(LabFault::Lines(out.take_text()?))
+}
+
+/// Adds what is wrong with a line.
+fn put_fault(out: &mut TextWriter, kind: AdviceFaultKind, word: &str) {
+    match kind {
+        AdviceFaultKind::Bytes => out.put("the line is no UTF-8"),
+        AdviceFaultKind::Sentence => out.put(LINES),
         AdviceFaultKind::Verdict => {
-            format!(in alloc; "no verdict on a program that runs is called {word}")?
+            out.put("no verdict on a program that runs is called ");
+            out.put_plain(word);
         }
-        AdviceFaultKind::Fact => format!(in alloc; "no fact is called {word}")?,
-        AdviceFaultKind::Part => format!(in alloc; "{word} is no part of this fact")?,
-        AdviceFaultKind::Twice => format!(in alloc; "{word}: the fact has such a part already")?,
-    };
-    Ok(LabFault::Lines(format!(in alloc; "{path}:{number}:1: error: {words}\n")?))
+        AdviceFaultKind::Fact => {
+            out.put("no fact is called ");
+            out.put_plain(word);
+        }
+        AdviceFaultKind::Part => {
+            out.put_plain(word);
+            out.put(" is no part of this fact");
+        }
+        AdviceFaultKind::Twice => {
+            out.put_plain(word);
+            out.put(": the fact has such a part already");
+        }
+    }
 }

@@ -1,17 +1,17 @@
 //! What `grade` says of the program of an exercise.
 
-use crate::folders::Exercise;
 use exercise_advice::judges::VerdictKind;
 use exercise_advice::searches::Console;
+use exercise_files::Exercise;
+use exercise_files::parts::{Inputs, LabFault};
 use lab_requests::{Bounds, GradeCases, GradeFormat, GradeRequest, Undecided};
 use std::alloc::Global;
 use std::io::{Read, Write};
 use std::rt::Files;
 use std::thread::Threads;
 use std::time::Clock;
-use submission_rows::parts::{Inputs, LabFault};
-use submission_rows::reports::{GradeRow, reason_of};
-use submission_rows::{DecidedByCase, judged_alone};
+use submission_rows::reports::GradeRow;
+use submission_rows::{JudgedAlone, judged_alone};
 
 /// How far a program is looked at.
 #[derive(Clone, Copy)]
@@ -33,32 +33,19 @@ pub(crate) const THOROUGH: SearchLimits = SearchLimits {
 
 /// The same where all exercises are listed: each in a fraction of a second.
 pub(crate) const QUICK: SearchLimits = SearchLimits {
-    worlds: 20_000,
+    worlds: 100_000,
     seeds: 20,
     steps: 2_000,
 };
 
-/// What is said of a program.
-#[derive(Drop)]
-pub(crate) struct Judgement {
-    /// What it is, and what shows it.
-    pub row: GradeRow,
-    /// What was looked at, or what shows that it is not right, in words without control bytes.
-    pub why: String,
-    /// What decides it, as values; None if it is no program.
-    pub decided: Option<DecidedByCase>,
+/// Whether a row says that the program is right.
+pub(crate) fn is_right(row: &GradeRow) -> bool {
+    row.kind == VerdictKind::Right
 }
 
-impl Judgement {
-    /// Whether it says that the program is right.
-    pub(crate) fn is_right(&self) -> bool {
-        self.row.kind == VerdictKind::Right
-    }
-
-    /// Whether it says that it is no program.
-    pub(crate) fn is_source_fault(&self) -> bool {
-        self.row.kind == VerdictKind::SourceFault
-    }
+/// Whether a row says that it is no program.
+pub(crate) fn is_source_fault(row: &GradeRow) -> bool {
+    row.kind == VerdictKind::SourceFault
 }
 
 /// What is said of the program of an exercise, its `start.asm`, by all of its cases and every schedule.
@@ -69,7 +56,7 @@ pub(crate) fn judge<X: Threads + Sync + Clock, F: Files, R: Read, E: Write>(
     exercise: &Exercise,
     reach: SearchLimits,
     console: &mut Console<'_, X, E>,
-) -> Result<Judgement, LabFault> {
+) -> Result<JudgedAlone, LabFault> {
     let start = exercise.file(alloc, "start.asm")?;
     judge_file(rt, alloc, inputs, exercise, &start, reach, console)
 }
@@ -83,10 +70,16 @@ pub(crate) fn judge_file<X: Threads + Sync + Clock, F: Files, R: Read, E: Write>
     path: &str,
     reach: SearchLimits,
     console: &mut Console<'_, X, E>,
-) -> Result<Judgement, LabFault> {
+) -> Result<JudgedAlone, LabFault> {
     let cases = exercise.file(alloc, "cases")?;
-    let request = GradeRequest {
-        cases: GradeCases::Folder(cases.as_str()),
+    let request = request_by(alloc, &cases, reach);
+    judged_alone(rt, alloc, inputs, &request, path, console)
+}
+
+/// What is asked of a program that is judged by the cases of a folder.
+fn request_by(alloc: Global, cases: &str, reach: SearchLimits) -> GradeRequest<'_> {
+    GradeRequest {
+        cases: GradeCases::Folder(cases),
         seeds: reach.seeds,
         most: reach.steps,
         counts_all: false,
@@ -110,12 +103,5 @@ pub(crate) fn judge_file<X: Threads + Sync + Clock, F: Files, R: Read, E: Write>
         format: GradeFormat::Text,
         undecided: Undecided::Unscored,
         hexadecimal: false,
-    };
-    let judged = judged_alone(rt, alloc, inputs, &request, path, console)?;
-    let why = reason_of(alloc, &judged.row, judged.cases)?;
-    Ok(Judgement {
-        row: judged.row,
-        why,
-        decided: judged.decided,
-    })
+    }
 }

@@ -1,26 +1,22 @@
-//! The commands `exercise` and `gallery`: the exercises of a folder, what is done of them, and what is said of a program; and pages
-//! of them and of examples.
+//! The command `exercise`: the exercises of a folder, what is done of them, and what is said of a program.
 #![tactic(auto)]
 
 mod advice;
+mod asked_pages;
 mod exercising;
-mod failing_pages;
 mod failing_programs;
-mod folders;
-mod gallery;
 mod hints;
 mod judging;
-mod left_out;
 mod listing;
 mod missed_words;
 mod originals;
-mod part_files;
-mod parts;
+mod reporting;
 mod shortfall_words;
 mod telling;
 mod typed_keys;
 mod watching;
 
+pub use asked_pages::ExercisePages;
 pub use exercising::exercise;
-pub use gallery::write_gallery;
+pub use failing_programs::failing_run;
 pub use watching::watch_exercise;

@@ -1,47 +1,72 @@
 //! What a program lacks by the line that decides, in words.
 
 use crate::advice::steps_of;
-use crate::judging::Judgement;
+use crate::listing::put_reason;
 use crate::shortfall_words::put_shortfall;
 use exercise_advice::judges::{CaseJudgement, MissedLine, Reason, VerdictKind};
 use exercise_advice::rules::ProgramRule;
-use exercise_advice::{ShownMistake, shortfall_of};
-use lab_texts::{ProgramNames, TextWriter, plural};
-use plain_text::plain;
+use exercise_advice::{Shortfall, ShownMistake, shortfall_of};
+use exercise_files::parts::texts::ProgramNames;
+use plain_text::{TextWriter, plural};
 use std::alloc::{AllocError, Global};
-use submission_rows::DecidedByCase;
 use submission_rows::reports::{GradeRow, reason_of};
+use submission_rows::{DecidedByCase, JudgedAlone};
 
-/// What is said of a program that was judged, after the name of its file: the line that decides in words, and what shows it on a
-/// line of its own. Without such words it is what `grade` says; of a deadlock who waits, and no line that its end misses.
-pub(crate) fn verdict_words(alloc: Global, judgement: &Judgement) -> Result<String, AllocError> {
-    let whole = judgement.why.as_str();
-    let Some(decided) = &judgement.decided else {
-        return String::from_str(alloc, whole);
+/// Adds what is said of a program that was judged, after the name of its file: the line that decides in words, and what shows it
+/// on a line of its own. Without such words it is what `grade` says; of a deadlock who waits, and no line that its end misses.
+pub(crate) fn put_verdict_words(
+    alloc: Global,
+    out: &mut TextWriter,
+    judged: &JudgedAlone,
+) -> Result<(), AllocError> {
+    let Some(decided) = &judged.decided else {
+        return put_reason(alloc, out, judged);
     };
     let Some(case) = decided.judgement.deciding() else {
-        return String::from_str(alloc, whole);
+        return put_reason(alloc, out, judged);
     };
     if case.kind == VerdictKind::Deadlock {
-        return words_without_line(alloc, &judgement.row, true);
+        return put_without_line(alloc, out, &judged.row, true);
     }
-    let missed = missed_words(alloc, decided, case, &judgement.row)?;
+    let missed = missed_words(alloc, decided, case, &judged.row)?;
     if missed.is_empty() {
-        return String::from_str(alloc, whole);
+        return put_reason(alloc, out, judged);
     }
-    let shows = words_without_line(alloc, &judgement.row, false)?;
-    match &judgement.row.case {
-        Some(name) => {
-            let name = plain(alloc, name)?;
-            format!(in alloc; "case {name}: {missed}\n{shows}")
-        }
-        None => format!(in alloc; "{missed}\n{shows}"),
-    }
+    put_missed(alloc, out, &judged.row, &missed)
 }
 
-/// What `grade` says of a row, but for the line that is missed, with the name of its case or without.
+/// Adds the line that decides in these words, after the name of its case, and what shows it on a line of its own.
+fn put_missed(
+    alloc: Global,
+    out: &mut TextWriter,
+    row: &GradeRow,
+    missed: &str,
+) -> Result<(), AllocError> {
+    if let Some(name) = &row.case {
+        out.put("case ");
+        out.put_plain(name);
+        out.put(": ");
+    }
+    out.put(missed);
+    out.put("\n");
+    put_without_line(alloc, out, row, false)
+}
+
+/// Adds what `grade` says of a row, but for the line that is missed, with the name of its case or without.
+fn put_without_line(
+    alloc: Global,
+    out: &mut TextWriter,
+    row: &GradeRow,
+    has_case: bool,
+) -> Result<(), AllocError> {
+    let words = words_without_line(alloc, row, has_case)?;
+    out.put(&words);
+    Ok(())
+}
+
+/// What `grade` says so.
 fn words_without_line(alloc: Global, row: &GradeRow, has_case: bool) -> Result<String, AllocError> {
-    let mut row = row.clone()?;
+    let mut row = row.copy()?;
     row.missed = None;
     if !has_case {
         row.case = None;
@@ -57,31 +82,64 @@ fn missed_words(
     row: &GradeRow,
 ) -> Result<String, AllocError> {
     let mut out = TextWriter::new(alloc);
+    put_missed_line(alloc, &mut out, decided, case, row)?;
+    out.take_text()
+}
+
+/// Adds the line that decides, in words; nothing where it has none.
+fn put_missed_line(
+    alloc: Global,
+    out: &mut TextWriter,
+    decided: &DecidedByCase,
+    case: &CaseJudgement,
+    row: &GradeRow,
+) -> Result<(), AllocError> {
     match case.missed() {
-        Some(MissedLine::End(_)) => {
-            let steps = steps_of(alloc, &decided.program.image, &row.witness)?;
-            let shown = ShownMistake {
-                image: &decided.program.image,
-                required: &decided.required,
-                judgement: case,
-                steps: &steps,
-            };
-            let names = ProgramNames::of(alloc, &decided.program.text)?;
-            if let Some(shortfall) = shortfall_of(alloc, shown)? {
-                put_shortfall(&mut out, &names, &shortfall);
-            }
-        }
+        Some(MissedLine::End(_)) => return put_end(alloc, out, decided, case, row),
         Some(MissedLine::Claim(place)) => {
             if let Some(line) = decided.required.claim_lines().get(place) {
-                put_claim(&mut out, &line.words, &case.reason);
+                put_claim(out, &line.words, &case.reason);
             }
         }
-        Some(MissedLine::Busy) => put_busy(&mut out, &case.reason),
-        Some(MissedLine::Starved) => put_starved(&mut out, &case.reason),
-        Some(MissedLine::Rule(place)) => put_rule_at(&mut out, decided, place),
+        Some(MissedLine::Busy) => put_busy(out, &case.reason),
+        Some(MissedLine::Starved) => put_starved(out, &case.reason),
+        Some(MissedLine::Rule(place)) => put_rule_at(out, decided, place),
         Some(MissedLine::Work(_) | MissedLine::Absent { .. }) | None => {}
     }
-    out.take_text()
+    Ok(())
+}
+
+/// Adds what the end of the run shows in place of what is expected.
+fn put_end(
+    alloc: Global,
+    out: &mut TextWriter,
+    decided: &DecidedByCase,
+    case: &CaseJudgement,
+    row: &GradeRow,
+) -> Result<(), AllocError> {
+    let steps = steps_of(alloc, &decided.program.image, &row.witness)?;
+    let shown = ShownMistake {
+        image: &decided.program.image,
+        required: &decided.required,
+        judgement: case,
+        steps: &steps,
+    };
+    match shortfall_of(alloc, shown)? {
+        Some(shortfall) => put_named(alloc, out, &decided.program.text, &shortfall),
+        None => Ok(()),
+    }
+}
+
+/// Adds what is expected and what is found instead, by the names that a source text has.
+fn put_named(
+    alloc: Global,
+    out: &mut TextWriter,
+    text: &[u8],
+    shortfall: &Shortfall,
+) -> Result<(), AllocError> {
+    let names = ProgramNames::of(alloc, text)?;
+    put_shortfall(out, &names, shortfall);
+    Ok(())
 }
 
 /// Adds how a claim does not hold, by its line; nothing where runs alone were looked at, and none shows what it asks for.

@@ -2,7 +2,8 @@
 
 use exercise_advice::expected::{Expectation, FullEmpty, Relation};
 use exercise_advice::{FoundInstead, Shortfall};
-use lab_texts::{NumberStyle, ProgramNames, RunPieces, TextWriter, full_word};
+use exercise_files::parts::texts::{NumberStyle, ProgramNames, RunPieces, full_word};
+use plain_text::TextWriter;
 
 /// How numbers are shown.
 const STYLE: NumberStyle = NumberStyle::Decimal;

@@ -1,14 +1,17 @@
 //! The command `exercise --watch`: the program of an exercise is judged each time that its file changes.
 
-use crate::exercising::{AskedExercise, place_of, push_progress, show_hint, tell};
-use crate::folders::{Exercise, read_exercises};
-use crate::part_files::read_part_or_why;
+use crate::asked_pages::ExercisePages;
+use crate::exercising::place_of;
+use crate::hints::show_hint;
+use crate::reporting::{AskedExercise, answer_exercise, answer_of};
 use crate::typed_keys::{ReadKey, TypedKey, read_keys_if_first};
 use crossbeam_channel::{Receiver, RecvTimeoutError};
 use editor_wire::{has_begun, has_second_thread};
 use exercise_advice::searches::Console;
+use exercise_files::parts::{CommandAnswer, Inputs, LabFault, Status};
+use exercise_files::{Exercise, read_exercises, read_part_or_why};
 use lab_requests::{ExerciseRequest, ExerciseTask};
-use plain_text::plain;
+use plain_text::TextWriter;
 use printed_lines::Printer;
 use std::alloc::{AllocError, Global};
 use std::io::{Read, Write};
@@ -19,7 +22,6 @@ use std::sync::atomic::AtomicBool;
 use std::thread;
 use std::thread::Threads;
 use std::time::{Clock, Duration};
-use submission_rows::parts::{CommandAnswer, Inputs, LabFault, Status};
 
 /// How many seconds pass between two looks at the file.
 const REST: u64 = 1;
@@ -45,21 +47,18 @@ pub fn watch_exercise<
     R: Read + Send,
     W: Write,
     E: Write,
+    P: ExercisePages,
 >(
     rt: &X,
     alloc: Global,
     inputs: &mut Inputs<'_, F, R>,
     request: &ExerciseRequest,
     printer: &mut Printer<'_, W>,
+    pages: &P,
     console: &mut Console<'_, X, E>,
 ) -> Result<Status, LabFault> {
     let exercises = read_exercises(alloc, inputs, request.folder)?;
     let place = place_of(alloc, &exercises, request)?;
-    if !has_second_thread(rt) {
-        return Err(no_thread(alloc));
-    }
-    let (sender, keys) = crossbeam_channel::bounded(alloc, WAITING)?;
-    let is_begun = AtomicBool::new(false);
     let watched = WatchedExercise {
         request: *request,
         exercises: &exercises,
@@ -67,6 +66,31 @@ pub fn watch_exercise<
         seen: None,
         hints: 0,
     };
+    watch_on_threads(rt, alloc, inputs, watched, printer, pages, console)
+}
+
+/// Watches on one thread, while another one reads.
+fn watch_on_threads<
+    X: Threads + Wait + Sync + Clock,
+    F: Files,
+    R: Read + Send,
+    W: Write,
+    E: Write,
+    P: ExercisePages,
+>(
+    rt: &X,
+    alloc: Global,
+    inputs: &mut Inputs<'_, F, R>,
+    watched: WatchedExercise<'_, '_>,
+    printer: &mut Printer<'_, W>,
+    pages: &P,
+    console: &mut Console<'_, X, E>,
+) -> Result<Status, LabFault> {
+    if !has_second_thread(rt) {
+        return Err(no_thread(alloc));
+    }
+    let (sender, keys) = crossbeam_channel::bounded(alloc, WAITING)?;
+    let is_begun = AtomicBool::new(false);
     let files = inputs.files;
     let input = &mut *inputs.input;
     let (_, ended) = thread::join(
@@ -77,6 +101,7 @@ pub fn watch_exercise<
                 files,
                 keys,
                 printer,
+                pages,
                 console,
             };
             watch_if_begun(rt, alloc, &is_begun, watched, ports)
@@ -86,12 +111,12 @@ pub fn watch_exercise<
 }
 
 /// Watches, if the thread that reads begins.
-fn watch_if_begun<X: Threads + Wait + Sync + Clock, F: Files, W: Write, E: Write>(
+fn watch_if_begun<X: Threads + Wait + Sync + Clock, F: Files, W: Write, E: Write, P: ExercisePages>(
     rt: &X,
     alloc: Global,
     is_begun: &AtomicBool,
     watched: WatchedExercise<'_, '_>,
-    ports: WatchPorts<'_, '_, '_, F, W, X, E>,
+    ports: WatchPorts<'_, '_, '_, F, W, P, X, E>,
 ) -> Result<Status, LabFault> {
     if !has_begun(rt, is_begun) {
         return Err(no_thread(alloc));
@@ -110,10 +135,11 @@ fn no_thread(alloc: Global) -> LabFault {
 
 /// Where what is watched comes from, and where answers go.
 #[derive(Drop)]
-struct WatchPorts<'p, 'w, 'c, F, W, X, E> {
+struct WatchPorts<'p, 'w, 'c, F, W, P, X, E> {
     files: &'p F,
     keys: Receiver<ReadKey, Global>,
     printer: &'p mut Printer<'w, W>,
+    pages: &'p P,
     console: &'p mut Console<'c, X, E>,
 }
 
@@ -132,20 +158,22 @@ struct WatchedExercise<'e, 'r> {
 
 impl WatchedExercise<'_, '_> {
     /// Looks at the file again and again, and answers what is typed.
-    fn watch<X: Threads + Wait + Sync + Clock, F: Files, W: Write, E: Write>(
+    fn watch<X: Threads + Wait + Sync + Clock, F: Files, W: Write, E: Write, P: ExercisePages>(
         &mut self,
         rt: &X,
         alloc: Global,
-        ports: &mut WatchPorts<'_, '_, '_, F, W, X, E>,
+        ports: &mut WatchPorts<'_, '_, '_, F, W, P, X, E>,
     ) -> Result<Status, LabFault> {
-        ports.printer.print(&String::from_str(alloc, KEYS)?)?;
+        print_keys(alloc, ports.printer)?;
         for _ in rt.forever() {
-            let mut nothing: &[u8] = b"";
-            let mut inputs = Inputs::new(alloc, ports.files, &mut nothing);
-            if self.has_changed(alloc, &mut inputs)? {
-                let told = self.judged(rt, alloc, &mut inputs, ExerciseTask::Judge, ports.console);
-                show(alloc, told, ports.printer, ports.console)?;
-            }
+            self.look(
+                rt,
+                alloc,
+                ports.files,
+                ports.printer,
+                ports.pages,
+                ports.console,
+            )?;
             let key = match ports.keys.recv_timeout(rt, Duration::from_secs(REST)) {
                 Ok(Ok(TypedKey::Quit)) | Err(RecvTimeoutError::Disconnected) => {
                     return Ok(Status::Done);
@@ -156,10 +184,54 @@ impl WatchedExercise<'_, '_> {
                 }
                 Err(RecvTimeoutError::Timeout) => continue,
             };
-            let told = self.answer(rt, alloc, &mut inputs, key, ports.console);
-            show(alloc, told, ports.printer, ports.console)?;
+            self.react(
+                rt,
+                alloc,
+                ports.files,
+                key,
+                ports.printer,
+                ports.pages,
+                ports.console,
+            )?;
         }
         unreachable!()
+    }
+
+    /// Says what comes of the program, if its text has changed.
+    fn look<X: Threads + Sync + Clock, F: Files, W: Write, E: Write, P: ExercisePages>(
+        &mut self,
+        rt: &X,
+        alloc: Global,
+        files: &F,
+        printer: &mut Printer<'_, W>,
+        pages: &P,
+        console: &mut Console<'_, X, E>,
+    ) -> Result<(), LabFault> {
+        let mut nothing: &[u8] = b"";
+        let mut inputs = Inputs::new(alloc, files, &mut nothing);
+        if !self.has_changed(alloc, &mut inputs)? {
+            return Ok(());
+        }
+        let task = ExerciseTask::Judge;
+        let answered = self.judged(rt, alloc, &mut inputs, task, pages, console);
+        show(alloc, answered, printer, console)
+    }
+
+    /// Answers what is typed.
+    fn react<X: Threads + Sync + Clock, F: Files, W: Write, E: Write, P: ExercisePages>(
+        &mut self,
+        rt: &X,
+        alloc: Global,
+        files: &F,
+        key: TypedKey,
+        printer: &mut Printer<'_, W>,
+        pages: &P,
+        console: &mut Console<'_, X, E>,
+    ) -> Result<(), LabFault> {
+        let mut nothing: &[u8] = b"";
+        let mut inputs = Inputs::new(alloc, files, &mut nothing);
+        let answered = self.answer(rt, alloc, &mut inputs, key, pages, console);
+        show(alloc, answered, printer, console)
     }
 
     /// Whether the text of the program is another one than that which was judged last, which it then is. One that can't be read
@@ -187,12 +259,13 @@ impl WatchedExercise<'_, '_> {
     }
 
     /// What is said of the program; and if it is right, how many exercises are done.
-    fn judged<X: Threads + Sync + Clock, F: Files, R: Read, E: Write>(
+    fn judged<X: Threads + Sync + Clock, F: Files, R: Read, E: Write, P: ExercisePages>(
         &self,
         rt: &X,
         alloc: Global,
         inputs: &mut Inputs<'_, F, R>,
         task: ExerciseTask<'_>,
+        pages: &P,
         console: &mut Console<'_, X, E>,
     ) -> Result<CommandAnswer, LabFault> {
         let Some(exercise) = self.exercises.get(self.place) else {
@@ -203,42 +276,37 @@ impl WatchedExercise<'_, '_> {
             next: self.exercises.get(self.place.saturating_add(1)),
             all: self.exercises,
             names_page: false,
+            counts_done: true,
         };
         let request = ExerciseRequest {
             folder: self.request.folder,
             which: self.request.which,
             task,
         };
-        let mut answer = tell(rt, alloc, inputs, &request, asked, console)?;
-        if answer.status == Status::Done && asked.next.is_some() {
-            push_progress(
-                rt,
-                alloc,
-                inputs,
-                self.exercises,
-                console,
-                &mut answer.output,
-            )?;
-        }
-        Ok(answer)
+        answer_exercise(rt, alloc, inputs, &request, asked, pages, console)
     }
 
     /// What is answered to a line.
-    fn answer<X: Threads + Sync + Clock, F: Files, R: Read, E: Write>(
+    fn answer<X: Threads + Sync + Clock, F: Files, R: Read, E: Write, P: ExercisePages>(
         &mut self,
         rt: &X,
         alloc: Global,
         inputs: &mut Inputs<'_, F, R>,
         key: TypedKey,
+        pages: &P,
         console: &mut Console<'_, X, E>,
     ) -> Result<CommandAnswer, LabFault> {
         match key {
             TypedKey::Hint => self.next_hint(alloc, inputs),
-            TypedKey::Page => self.judged(rt, alloc, inputs, ExerciseTask::Page(PAGE), console),
+            TypedKey::Page => {
+                let task = ExerciseTask::Page(PAGE);
+                self.judged(rt, alloc, inputs, task, pages, console)
+            }
             TypedKey::Next => self.next_exercise(alloc),
             TypedKey::Quit | TypedKey::Other => {
-                let keys = String::from_str(alloc, KEYS)?;
-                Ok(CommandAnswer::printed(alloc, keys, Status::Done))
+                let mut out = TextWriter::new(alloc);
+                out.put(KEYS);
+                answer_of(out, Status::Done, None)
             }
         }
     }
@@ -261,25 +329,33 @@ impl WatchedExercise<'_, '_> {
     /// Goes on to the exercise that comes next, whose program is judged when it is looked at.
     fn next_exercise(&mut self, alloc: Global) -> Result<CommandAnswer, LabFault> {
         let next = self.place.saturating_add(1);
-        let mut out = String::new(alloc);
+        let mut out = TextWriter::new(alloc);
         match self.exercises.get(next) {
             Some(exercise) => {
                 self.place = next;
                 self.seen = None;
                 self.hints = 0;
-                let path = plain(alloc, &exercise.path)?;
-                write!(out, "{path}/task.md says what to do in {path}/start.asm\n")?;
+                out.put_plain(&exercise.path);
+                out.put("/task.md says what to do in ");
+                out.put_plain(&exercise.path);
+                out.put("/start.asm\n");
             }
-            None => out.push_str("This is the last exercise.\n")?,
+            None => out.put("This is the last exercise.\n"),
         }
-        Ok(CommandAnswer::printed(alloc, out, Status::Done))
+        answer_of(out, Status::Done, None)
     }
+}
+
+/// Prints what the keys are.
+fn print_keys<W: Write>(alloc: Global, printer: &mut Printer<'_, W>) -> Result<(), LabFault> {
+    let keys = String::from_str(alloc, KEYS)?;
+    printer.print(&keys)
 }
 
 /// Shows an answer, or why there is none; a fault that is no reason in words ends the watching.
 fn show<W: Write, C: Clock, E: Write>(
     alloc: Global,
-    told: Result<CommandAnswer, LabFault>,
+    answered: Result<CommandAnswer, LabFault>,
     printer: &mut Printer<'_, W>,
     console: &mut Console<'_, C, E>,
 ) -> Result<(), LabFault> {
@@ -288,7 +364,7 @@ fn show<W: Write, C: Clock, E: Write>(
         errors,
         status: _status,
         fault,
-    } = match told {
+    } = match answered {
         Ok(answer) => answer,
         Err(fault) => return show_fault(alloc, fault, console),
     };
@@ -306,14 +382,29 @@ fn show_fault<C: Clock, E: Write>(
     fault: LabFault,
     console: &mut Console<'_, C, E>,
 ) -> Result<(), LabFault> {
-    let lines = match fault {
-        LabFault::Words(words) => {
-            let words = plain(alloc, &words)?;
-            format!(in alloc; "mta_lab: {words}\n")?
+    match fault {
+        LabFault::Words(words) => show_words(alloc, &words, console),
+        LabFault::Lines(lines) => {
+            let _ = console.errors.write_all(lines.as_bytes());
+            Ok(())
         }
-        LabFault::Lines(lines) => lines,
-        other => return Err(other),
-    };
-    let _ = console.errors.write_all(lines.as_bytes());
+        LabFault::NoMemory => Err(LabFault::NoMemory),
+        LabFault::Write => Err(LabFault::Write),
+        LabFault::Closed => Err(LabFault::Closed),
+    }
+}
+
+/// Shows a reason in words on a line of its own.
+fn show_words<C: Clock, E: Write>(
+    alloc: Global,
+    words: &str,
+    console: &mut Console<'_, C, E>,
+) -> Result<(), LabFault> {
+    let mut out = TextWriter::new(alloc);
+    out.put("mta_lab: ");
+    out.put_plain(words);
+    out.put("\n");
+    let line = out.take_text()?;
+    let _ = console.errors.write_all(line.as_bytes());
     Ok(())
 }

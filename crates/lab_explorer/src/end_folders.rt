@@ -3,8 +3,8 @@
 use crate::end_pages::FoundProgram;
 use crate::waiting_files::keep_waits;
 use crate::written_files::WrittenFiles;
-use command_parts::{Inputs, LabFault};
 use lab_requests::ExploreRequest;
+use search_texts::parts::{Inputs, LabFault};
 use space_graphs::ends_of_space::SpaceEnd;
 use std::alloc::Global;
 use std::io::Read;

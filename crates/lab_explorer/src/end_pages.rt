@@ -1,10 +1,10 @@
 //! The pages of the runs that lead to ends.
 
 use crate::written_files::WrittenFiles;
-use command_parts::{Inputs, LabFault, Program};
 use expectation_files::{NEVER_BUSY, NEVER_STARVED, Requirements, WrittenLine};
 use plain_text::stem_of;
 use replay_page::{MOST_STEPS, RunNames, RunVerdict, page_of_run};
+use search_texts::parts::{Inputs, LabFault, Program};
 use search_texts::push_expected;
 use search_texts::searches::endless::EndlessWaits;
 use search_texts::searches::{Explored, UnkeptWaits};

@@ -1,13 +1,15 @@
-//! Who can wait forever in a program.
+//! What endless loops of a program are: who can wait forever, who goes on, and whether nothing comes of their steps.
 
 use crate::waiting_objects::push_waits_objects;
 use crate::waiting_text::push_waits_lines;
+use end_kinds::EndKind;
 use image_file::Image;
-use lab_texts::ProgramNames;
 use processor::Step;
+use search_texts::parts::texts::ProgramNames;
 use search_texts::searches::Explored;
 use search_texts::searches::endless::EndlessWaits;
 use search_texts::searches::endless::starving::StarvingStreams;
+use space_graphs::ends_of_space::{SpaceEnd, SpaceEndKind};
 use std::alloc::{AllocError, Global};
 
 /// A program of which it was asked who can wait forever.
@@ -70,4 +72,14 @@ pub(crate) fn going_streams(
 fn is_never(answer: &StarvingStreams, stream: Step) -> bool {
     !answer.undecided.contains(&stream)
         && !answer.starving.iter().any(|shown| shown.stream == stream)
+}
+
+/// Whether it is an endless loop.
+pub(crate) fn is_spinning(end: &SpaceEnd) -> bool {
+    end.kind == SpaceEndKind::End(EndKind::Spinning)
+}
+
+/// Whether it is a livelock: an endless loop in which no step changes a word, so that streams do no more than try.
+pub(crate) fn is_livelock(end: &SpaceEnd) -> bool {
+    is_spinning(end) && end.changing.is_empty()
 }

@@ -1,9 +1,9 @@
 //! What is said of a search as objects (docs/LAB_REFERENCE.md, "JSON").
 
-use command_parts::push_object;
 use image_file::Image;
 use lab_json::{Fields, List, Object, object_of, put_run, stream_value, turns_value};
 use processor::Step;
+use search_texts::parts::push_object;
 use search_texts::searches::Explored;
 use search_texts::{ExpectedLines, bound_value};
 use serde_json::Value;

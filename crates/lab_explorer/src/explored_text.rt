@@ -1,25 +1,33 @@
 //! What is said of a search: its head and its ends, in words or as objects.
 
+use crate::asked_waits::is_left_open;
 use crate::end_pages::FoundProgram;
-use crate::endless::{WaitingProgram, going_streams};
+use crate::endless::{WaitingProgram, going_streams, is_livelock, is_spinning};
 use crate::explored_objects::push_objects;
-use command_parts::CommandAnswer;
-use end_kinds::{EndKind, Status};
+use end_kinds::Status;
 use expectation_files::Requirements;
-use lab_texts::Notation;
 use plain_text::{plural, push_plain};
 use schedule_turns::turns_of;
+use search_texts::parts::CommandAnswer;
+use search_texts::parts::texts::Notation;
 use search_texts::searches::Explored;
 use search_texts::{
     EndCells, EndColumns, ExpectedLines, LookedAt, end_line, push_expected, push_undecided_work,
     push_undecided_work_objects, push_unkept, push_unkept_objects,
 };
 use space_graphs::ends_in_words::{EndWords, words_of_ends};
-use space_graphs::ends_of_space::{SpaceEnd, SpaceEndKind};
+use space_graphs::ends_of_space::SpaceEnd;
 use std::alloc::{AllocError, Global};
 
 /// The most turns of a schedule that are shown with a claim that it breaks.
 const MOST_TURNS: usize = 40;
+
+/// What is said below an endless loop in which no step changes a word.
+const LIVELOCK: &str = "livelock: no step changes a word any more";
+
+/// What is said of a program with an endless loop where the search of all states came to a bound.
+const NOT_ALL_STATES: &str =
+    "not decided: who can wait forever: a search of all states came to a bound\n";
 
 /// What is said of a search among the schedules of a program, and of who can wait forever, if that was asked or is required.
 pub(crate) fn answer_of(
@@ -43,21 +51,37 @@ pub(crate) fn answer_of(
         let words = words_of_ends(alloc, notation, required, image, &found.ends)?;
         push_lines(alloc, &mut output, required, found, &words)?;
     }
-    let mut status = found.status().worse(work_status(required));
-    if let Some(waits) = shown.waits {
-        status = status.worse(waits.status());
-        let going = going_streams(alloc, found, waits)?;
-        let waiting = WaitingProgram {
-            names: notation.names,
-            image,
-            begin: found.begin(),
-            keep: shown.keep,
-            waits,
-            going: &going,
-        };
-        waiting.push(alloc, &mut output, is_json)?;
-    }
+    let of_waits = push_waits(alloc, &mut output, is_json, notation, shown)?;
+    let status = found.status().worse(work_status(required)).worse(of_waits);
     Ok(CommandAnswer::printed(alloc, output, status))
+}
+
+/// Adds who can wait forever, if that was asked or is required, or that it is not decided of a program with an endless loop.
+/// Gives what the answer means for the exit status.
+fn push_waits(
+    alloc: Global,
+    out: &mut String,
+    is_json: bool,
+    notation: Notation<'_, '_>,
+    shown: FoundProgram<'_>,
+) -> Result<Status, AllocError> {
+    let Some(waits) = shown.waits else {
+        if !is_json && is_left_open(shown.found) {
+            out.push_str(NOT_ALL_STATES)?;
+        }
+        return Ok(Status::Done);
+    };
+    let going = going_streams(alloc, shown.found, waits)?;
+    let waiting = WaitingProgram {
+        names: notation.names,
+        image: &shown.program.image,
+        begin: shown.found.begin(),
+        keep: shown.keep,
+        waits,
+        going: &going,
+    };
+    waiting.push(alloc, out, is_json)?;
+    Ok(waits.status())
 }
 
 /// What it means for the exit status that a search does not decide who does the work.
@@ -186,6 +210,7 @@ impl EndLine<'_, '_> {
         end_line(out)?;
         columns.push_note(out, &words.finding)?;
         columns.push_note(out, &words.cycle)?;
+        columns.push_note(out, livelock_words(end))?;
         columns.push_note(out, &broken_words(alloc, end)?)
     }
 }
@@ -193,12 +218,17 @@ impl EndLine<'_, '_> {
 /// The kind of an end, and of how many sets it is where worlds spin.
 fn kind_words(alloc: Global, end: &SpaceEnd) -> Result<String, AllocError> {
     let kind = end.kind.name();
-    if end.kind != SpaceEndKind::End(EndKind::Spinning) {
+    if !is_spinning(end) {
         return String::from_str(alloc, kind);
     }
     let sets = end.sets;
     let some_sets = plural(sets);
     format!(in alloc; "{kind} in {sets} set{some_sets}")
+}
+
+/// That an endless loop is a livelock; empty of others, and of ends.
+fn livelock_words(end: &SpaceEnd) -> &'static str {
+    if is_livelock(end) { LIVELOCK } else { "" }
 }
 
 /// In how many steps an end is reached, and from how many worlds.
@@ -243,7 +273,7 @@ fn push_missed(
     end: &SpaceEnd,
     text: &str,
 ) -> Result<(), AllocError> {
-    if required.ends().is_empty() || !end.is_trapped && end.missed.is_none() {
+    if required.is_nothing() || !end.is_trapped && end.missed.is_none() {
         return Ok(());
     }
     push_missed_head(out, text)?;

@@ -1,20 +1,21 @@
 //! The command `explore`.
 
+use crate::asked_waits::{SearchedProgram, waits_asked};
 use crate::end_folders::{make_folders, write_folders};
 use crate::end_pages::FoundProgram;
 use crate::explored_text::answer_of;
 use crate::graphs::{GraphedSearch, write_graph};
 use crate::written_files::WrittenFiles;
 use asked_programs::{WarnedProgram, read_warned_program};
-use command_parts::{CommandAnswer, Inputs, LabFault, Program, read_steps, style_of};
 use expectation_files::Requirements;
 use expectation_messages::requirements_of;
 use lab_requests::ExploreRequest;
-use lab_texts::{Notation, ProgramNames};
 use processor::Step;
+use search_texts::parts::texts::{Notation, ProgramNames};
+use search_texts::parts::{CommandAnswer, Inputs, LabFault, Program, read_steps, style_of};
 use search_texts::search_fault;
 use search_texts::searches::endless::EndlessWaits;
-use search_texts::searches::{Console, Explored, ProgramSearch, endless_waits_of, explore_program};
+use search_texts::searches::{Console, Explored, ProgramSearch, explore_program};
 use std::alloc::Global;
 use std::io::{Read, Write};
 use std::rt::Files;
@@ -69,7 +70,7 @@ fn show_ends<C: Clock, F: Files, R: Read, E: Write>(
 ) -> Result<CommandAnswer, LabFault> {
     let made = make_folders(alloc, inputs, request);
     let found = every_end(alloc, request, read, console)?;
-    let waits = waits_asked(alloc, request, &found)?;
+    let waits = waits_asked(alloc, request, searched(read), &found, console)?;
     let notation = Notation {
         names: read.names,
         style: style_of(request.shown),
@@ -98,6 +99,14 @@ fn show_ends<C: Clock, F: Files, R: Read, E: Write>(
     Ok(answer)
 }
 
+/// A program that was read, as a search takes it.
+fn searched<'a>(read: ReadProgram<'a, '_>) -> SearchedProgram<'a> {
+    SearchedProgram {
+        image: &read.program.image,
+        begin: read.begin,
+    }
+}
+
 /// Every end of a program that was read.
 fn every_end<'a, C: Clock, E: Write>(
     alloc: Global,
@@ -115,18 +124,6 @@ fn every_end<'a, C: Clock, E: Write>(
         Ok(found) => Ok(found),
         Err(fault) => Err(search_fault(alloc, fault)?),
     }
-}
-
-/// Who can wait forever, if it is asked.
-fn waits_asked(
-    alloc: Global,
-    request: &ExploreRequest,
-    found: &Explored<'_>,
-) -> Result<Option<EndlessWaits>, LabFault> {
-    if !request.asks_who_waits {
-        return Ok(None);
-    }
-    Ok(Some(endless_waits_of(alloc, found)?))
 }
 
 /// Who can wait forever, if it is asked, or if it is required that nobody can and the search has an answer.

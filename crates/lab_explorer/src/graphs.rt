@@ -1,10 +1,10 @@
 //! The graph of the worlds that were looked at, as a file.
 
 use crate::explored_text::push_head_line;
-use command_parts::{Inputs, LabFault};
 use expectation_files::Requirements;
 use image_file::Image;
-use lab_texts::Notation;
+use search_texts::parts::texts::Notation;
+use search_texts::parts::{Inputs, LabFault};
 use search_texts::searches::Explored;
 use space_graphs::ends_in_words::words_of_ends;
 use space_graphs::{MOST_DRAWN, graph_of};

@@ -1,6 +1,7 @@
 //! The command `explore`: every end that schedules of a program come to, judged by what is required.
 #![tactic(auto)]
 
+mod asked_waits;
 mod end_folders;
 mod end_pages;
 mod endless;

@@ -1,8 +1,8 @@
 //! The schedules of streams that can wait forever, as files.
 
 use crate::written_files::WrittenFiles;
-use command_parts::{Inputs, LabFault};
 use processor::Step;
+use search_texts::parts::{Inputs, LabFault};
 use search_texts::searches::endless::EndlessWaits;
 use search_texts::searches::endless::starving::Starving;
 use std::alloc::{AllocError, Global};

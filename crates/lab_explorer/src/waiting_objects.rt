@@ -1,10 +1,10 @@
 //! Who can wait forever, as objects (docs/LAB_REFERENCE.md, "JSON").
 
 use crate::endless::WaitingProgram;
-use command_parts::push_object;
 use lab_json::{List, Object, stream_value, text_value, turns_value};
-use lab_texts::{ProgramNames, wanted_word};
 use processor::Step;
+use search_texts::parts::push_object;
+use search_texts::parts::texts::{ProgramNames, wanted_word};
 use search_texts::searches::endless::starving::Starving;
 use search_texts::searches::endless::{EndlessWaits, SeenRound, StreamSteps, seen_round};
 use serde_json::Value;

@@ -2,8 +2,8 @@
 
 use crate::endless::WaitingProgram;
 use crate::waiting_files::waiting_path;
-use lab_texts::{ProgramNames, RunPieces, TextWriter};
 use processor::Step;
+use search_texts::parts::texts::{ProgramNames, RunPieces, TextWriter};
 use search_texts::searches::endless::starving::Starving;
 use search_texts::searches::endless::{EndlessWaits, SeenRound, StreamSteps, seen_round};
 use search_texts::{put_turns, put_waiting};

@@ -1,8 +1,8 @@
 //! What became of the files that `explore` writes.
 
-use command_parts::LabFault;
 use plain_text::push_plain;
 use replay_page::MOST_STEPS;
+use search_texts::parts::LabFault;
 use std::alloc::{AllocError, Global};
 
 /// What became of the files that `explore` writes.

@@ -2,11 +2,10 @@
 
 use crate::class_stages::{Desk, Graded, Job, Next, Outcome, Slot, Stage};
 use crate::kept_results::{KeptResults, NO_TEXT};
+use crate::option_sums::sum_of;
 use crate::page_folder::PageFolder;
 use crate::progress::{Progress, Reached};
 use class_results::Checksum;
-use expectation_messages::parts::{LabFault, Program};
-use result_lines::checksum_of;
 use result_lines::judges::VerdictKind;
 use result_lines::reports::{GradeRow, ReportedRow, head_of, lines_of};
 use std::alloc::{AllocError, Global};
@@ -15,6 +14,7 @@ use std::io::{Read, Write};
 use std::mem;
 use std::rt::Files;
 use std::time::Clock;
+use submission_rows::parts::{LabFault, Program};
 use submission_rows::{Grading, ReadSubmission, program_or_row, read_submission};
 
 /// How many bytes the texts and images have at a time that are read and not yet written, beside the last one.
@@ -115,7 +115,7 @@ impl<'f, 'g, 'r, T> ClassFlow<'f, 'g, 'r, T> {
         place: usize,
         bytes: Vec<u8>,
     ) -> Result<Next, LabFault> {
-        let text = checksum_of(&bytes);
+        let text = sum_of(&bytes);
         if let Some(row) = self.kept_row(&text)? {
             let program = self.page_program(alloc, bytes)?;
             return self.know(alloc, desk, text, Graded { program, row });
@@ -148,7 +148,7 @@ impl<'f, 'g, 'r, T> ClassFlow<'f, 'g, 'r, T> {
             return Ok(None);
         };
         match kept.row_of(text) {
-            Some(row) => Ok(Some(row.clone()?)),
+            Some(row) => Ok(Some(row.copy()?)),
             None => Ok(None),
         }
     }
@@ -231,6 +231,12 @@ impl<'f, 'g, 'r, T> ClassFlow<'f, 'g, 'r, T> {
             None => NO_TEXT,
         };
         self.keep(alloc, desk, place, text, &row)?;
+        self.judged(place, program, row);
+        Ok(())
+    }
+
+    /// Notes that the submission of a place is judged.
+    fn judged(&mut self, place: usize, program: Program, row: GradeRow) {
         let program = if self.has_pages() {
             Some(program)
         } else {
@@ -243,7 +249,6 @@ impl<'f, 'g, 'r, T> ClassFlow<'f, 'g, 'r, T> {
             }
             slot.stage = Stage::Judged(Graded { program, row });
         }
-        Ok(())
     }
 
     /// Writes the rows that are known, up to the first that is not.
@@ -263,25 +268,39 @@ impl<'f, 'g, 'r, T> ClassFlow<'f, 'g, 'r, T> {
 
     /// What is said of the submission of a place, if that is known; it is taken out.
     fn graded_at(&mut self, place: usize) -> Result<Option<Graded>, LabFault> {
-        let Some(slot) = self.slots.get_mut(place) else {
-            return Ok(None);
+        let stage = match self.slots.get_mut(place) {
+            Some(slot) => mem::replace(&mut slot.stage, Stage::Written),
+            None => return Ok(None),
         };
-        match mem::replace(&mut slot.stage, Stage::Written) {
+        match stage {
             Stage::Judged(graded) => Ok(Some(graded)),
-            Stage::Same { first, program } => match self.rows.get(first) {
-                Some(row) => {
-                    let mut row = row.clone()?;
-                    row.page = None;
-                    Ok(Some(Graded { program, row }))
-                }
+            Stage::Same { first, program } => match self.row_again(first)? {
+                Some(row) => Ok(Some(Graded { program, row })),
                 None => Ok(None),
             },
             Stage::Waiting => {
-                slot.stage = Stage::Waiting;
+                self.wait_again(place);
                 Ok(None)
             }
             Stage::Written => Ok(None),
         }
+    }
+
+    /// Notes that the submission of a place is still being judged.
+    fn wait_again(&mut self, place: usize) {
+        if let Some(slot) = self.slots.get_mut(place) {
+            slot.stage = Stage::Waiting;
+        }
+    }
+
+    /// The row that was written of an earlier submission, without its page.
+    fn row_again(&self, first: usize) -> Result<Option<GradeRow>, AllocError> {
+        let Some(row) = self.rows.get(first) else {
+            return Ok(None);
+        };
+        let mut row = row.copy()?;
+        row.page = None;
+        Ok(Some(row))
     }
 
     /// Writes the row of a submission, with its page.
@@ -304,16 +323,28 @@ impl<'f, 'g, 'r, T> ClassFlow<'f, 'g, 'r, T> {
         let row = self
             .pages
             .next_row(alloc, desk.inputs, self.grading, graded, desk.console)?;
-        let path = self.grading.submissions.get(place).copied().unwrap_or("");
-        let lines = self.lines_for(alloc, path, &row)?;
-        if !lines.is_empty() {
-            desk.printer.print(&lines)?;
-        }
+        self.print_row(alloc, desk, place, &row)?;
         if row.kind == VerdictKind::NotDecided {
             self.undecided = self.undecided.saturating_add(1);
         }
         self.rows.push(row)?;
         Ok(())
+    }
+
+    /// Prints the lines of the row of the submission of a place.
+    fn print_row<F, R, W: Write, X, E>(
+        &self,
+        alloc: Global,
+        desk: &mut Desk<'_, '_, '_, '_, '_, '_, F, R, W, X, E>,
+        place: usize,
+        row: &GradeRow,
+    ) -> Result<(), LabFault> {
+        let path = self.grading.submissions.get(place).copied().unwrap_or("");
+        let lines = self.lines_for(alloc, path, row)?;
+        if lines.is_empty() {
+            return Ok(());
+        }
+        desk.printer.print(&lines)
     }
 
     /// The lines of the row of a submission; those of the first one after the names of the columns.

@@ -1,10 +1,10 @@
 //! How far the submissions of a class are, each on its way from a file to a row.
 
 use class_results::Checksum;
-use expectation_messages::parts::{Inputs, LabFault, Program};
 use printed_lines::Printer;
 use program_pages::searches::Console;
 use result_lines::reports::GradeRow;
+use submission_rows::parts::{Inputs, LabFault, Program};
 
 /// Where submissions come from, and where rows go.
 #[derive(Drop)]

@@ -1,8 +1,8 @@
 //! What is said of submissions beside their rows.
 
-use expectation_messages::parts::LinkOut;
 use plain_text::push_plain;
 use std::alloc::{AllocError, Global};
+use submission_rows::parts::LinkOut;
 
 /// What is said of submissions beside their rows.
 #[derive(Drop)]

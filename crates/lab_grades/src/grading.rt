@@ -10,12 +10,10 @@ use crate::progress::Progress;
 use crate::side_by_side::{jobs_of, judge_class};
 use crate::student_folders::note_several;
 use class_results::{ClassPart, class_of, judged_in};
-use expectation_messages::parts::{CommandAnswer, Inputs, LabFault};
 use lab_requests::{GradeFormat, GradeRequest};
 use printed_lines::Printer;
 use program_pages::searches::Console;
 use result_lines::ClassHead;
-use result_lines::judges::Case;
 use result_lines::reports::{GradeRow, ReportForm, ReportedRow, report_of, worst_status};
 use std::alloc::{AllocError, Global};
 use std::io::{Read, Write};
@@ -23,6 +21,7 @@ use std::rt::Files;
 use std::sync::Wait;
 use std::thread::Threads;
 use std::time::Clock;
+use submission_rows::parts::{CommandAnswer, Inputs, LabFault};
 use submission_rows::{Grading, read_cases};
 
 /// The submissions of a call.
@@ -168,22 +167,34 @@ fn head_for(
     grading: &Grading<'_, '_>,
     class: &[&str],
 ) -> Result<ClassHead, AllocError> {
-    let request = grading.request;
-    let mut paths = Vec::new(alloc);
-    for path in class {
-        paths.push(String::from_str(alloc, path)?)?;
-    }
-    let part = match request.part {
-        Some(part) => Some(String::from_str(alloc, part)?),
-        None => None,
-    };
-    Ok(ClassHead {
-        version: String::from_str(alloc, request.version)?,
-        part,
-        options: options_sum(alloc, request.version, grading)?,
-        cases: cases_sum(alloc, grading.cases)?,
+    let options = options_sum(alloc, grading.request.version, grading)?;
+    let cases = cases_sum(alloc, grading.cases)?;
+    let mut head = ClassHead {
+        version: String::new(alloc),
+        part: None,
+        options,
+        cases,
         named_cases: grading.form.named,
         points: grading.form.points,
-        submissions: paths,
-    })
+        submissions: Vec::new(alloc),
+    };
+    add_texts(alloc, grading.request, class, &mut head)?;
+    Ok(head)
+}
+
+/// Adds the version, the part, and the paths of a class.
+fn add_texts(
+    alloc: Global,
+    request: &GradeRequest,
+    class: &[&str],
+    head: &mut ClassHead,
+) -> Result<(), AllocError> {
+    head.version.push_str(request.version)?;
+    if let Some(part) = request.part {
+        head.part = Some(String::from_str(alloc, part)?);
+    }
+    for path in class {
+        head.submissions.push(String::from_str(alloc, path)?)?;
+    }
+    Ok(())
 }

@@ -1,8 +1,7 @@
 //! The file in which the results of a call are kept.
 
 use class_results::{Checksum, ResultBasis};
-use expectation_messages::parts::{Inputs, LabFault};
-use plain_text::push_plain;
+use plain_text::{TextWriter, push_plain};
 use rayon::prelude::*;
 use result_lines::judges::VerdictKind;
 use result_lines::reports::GradeRow;
@@ -13,6 +12,7 @@ use std::io::Read;
 use std::rt::Files;
 use std::str;
 use std::thread::Threads;
+use submission_rows::parts::{Inputs, LabFault};
 
 /// The checksum that stands for the text of a submission that can't be read.
 pub(crate) const NO_TEXT: Checksum = [0; 32];
@@ -60,23 +60,8 @@ impl<'a, T> KeptResults<'a, T> {
         head: ClassHead,
         notes: &mut String,
     ) -> Result<KeptResults<'a, T>, LabFault> {
-        let first = head_line(alloc, &head)?;
-        if inputs.files.metadata(path).is_err() {
-            inputs.write(alloc, path, first.as_bytes())?;
-        }
-        let mut file = inputs.open_to_append(alloc, path)?;
-        let text = inputs.read_again(alloc, path)?;
-        let found = found_in(rt, alloc, path, &text, &head, notes)?;
-        let mut added = String::new(alloc);
-        if !found.is_ended {
-            added.push_str("\n")?;
-        }
-        if !found.has_head {
-            added.push_str(&first)?;
-        }
-        if !added.is_empty() {
-            inputs.append(alloc, path, &mut file, added.as_bytes())?;
-        }
+        let opened = open_results(rt, alloc, inputs, path, &head, notes)?;
+        let Opened { file, found } = opened;
         Ok(KeptResults {
             path,
             file,
@@ -142,15 +127,48 @@ fn latest_of(latest: &[Option<Checksum>], place: Option<usize>) -> Option<Checks
     latest.get(place?).copied()?
 }
 
-/// What a file of results has for a call.
-fn found_in<X: Threads + Sync>(
+/// A file of results, and what it has for a call.
+#[derive(Drop)]
+struct Opened<T> {
+    /// The file, open to add to its end.
+    file: T,
+    /// What it has.
+    found: Found,
+}
+
+/// Opens the file of a path for the results of a call, which is made where nothing is, with what the call is to judge as its
+/// last head.
+fn open_results<X: Threads + Sync, F: Files, R: Read>(
     rt: &X,
     alloc: Global,
+    inputs: &Inputs<'_, F, R>,
     path: &str,
-    text: &[u8],
+    head: &ClassHead,
+    notes: &mut String,
+) -> Result<Opened<F::File>, LabFault> {
+    let first = head_line(alloc, head)?;
+    if inputs.files.metadata(path).is_err() {
+        inputs.write(alloc, path, first.as_bytes())?;
+    }
+    let mut file = inputs.open_to_append(alloc, path)?;
+    let found = found_in(rt, alloc, inputs, path, head, notes)?;
+    let added = found.lacking(alloc, &first)?;
+    if !added.is_empty() {
+        inputs.append(alloc, path, &mut file, added.as_bytes())?;
+    }
+    Ok(Opened { file, found })
+}
+
+/// What a file of results has for a call.
+fn found_in<X: Threads + Sync, F: Files, R: Read>(
+    rt: &X,
+    alloc: Global,
+    inputs: &Inputs<'_, F, R>,
+    path: &str,
     head: &ClassHead,
     notes: &mut String,
 ) -> Result<Found, LabFault> {
+    let text = inputs.read_again(alloc, path)?;
     let mut found = Found {
         by_text: HashMap::new(alloc),
         rows: Vec::new(alloc),
@@ -158,28 +176,68 @@ fn found_in<X: Threads + Sync>(
         has_head: false,
         is_ended: text.is_empty() || text.ends_with(b"\n"),
     };
-    let wanted = head_line(alloc, head)?;
-    let lines = lines_in(alloc, text)?;
-    for (index, said) in read_lines(rt, alloc, &lines)?.into_iter().enumerate() {
-        let line = lines.get(index).copied().unwrap_or(b"");
-        if line.is_empty() && (index > 0 || text.is_empty()) {
-            continue;
-        }
-        match said {
-            ResultLine::Head(_) => {
-                found.has_head = wanted.as_bytes().strip_suffix(b"\n") == Some(line)
-            }
-            ResultLine::Result(_) | ResultLine::Damaged if index == 0 => {
-                return Err(no_results(alloc, path)?);
-            }
-            ResultLine::Result(kept) => found.add(head, kept)?,
-            ResultLine::Damaged => note_damaged(notes, path, index)?,
-        }
-    }
+    found.read(rt, alloc, path, &text, head, notes)?;
     Ok(found)
 }
 
 impl Found {
+    /// What the file lacks: the end of its last line, or this line as its last head.
+    fn lacking(&self, alloc: Global, first: &str) -> Result<String, AllocError> {
+        let mut added = TextWriter::new(alloc);
+        if !self.is_ended {
+            added.put("\n");
+        }
+        if !self.has_head {
+            added.put(first);
+        }
+        added.take_text()
+    }
+
+    /// Reads the text of the file of a path.
+    fn read<X: Threads + Sync>(
+        &mut self,
+        rt: &X,
+        alloc: Global,
+        path: &str,
+        text: &[u8],
+        head: &ClassHead,
+        notes: &mut String,
+    ) -> Result<(), LabFault> {
+        let wanted = head_line(alloc, head)?;
+        let lines = lines_in(alloc, text)?;
+        for (index, said) in read_lines(rt, alloc, &lines)?.into_iter().enumerate() {
+            let line = lines.get(index).copied().unwrap_or(b"");
+            if line.is_empty() && (index > 0 || text.is_empty()) {
+                continue;
+            }
+            if let ResultLine::Head(_) = &said {
+                self.has_head = wanted.as_bytes().strip_suffix(b"\n") == Some(line);
+            }
+            self.take(alloc, path, index, head, said, notes)?;
+        }
+        Ok(())
+    }
+
+    /// Takes what the line of an index says.
+    fn take(
+        &mut self,
+        alloc: Global,
+        path: &str,
+        index: usize,
+        head: &ClassHead,
+        said: ResultLine,
+        notes: &mut String,
+    ) -> Result<(), LabFault> {
+        match said {
+            ResultLine::Head(_) => Ok(()),
+            ResultLine::Result(_) | ResultLine::Damaged if index == 0 => {
+                Err(no_results(alloc, path)?)
+            }
+            ResultLine::Result(kept) => Ok(self.add(head, kept)?),
+            ResultLine::Damaged => Ok(note_damaged(notes, path, index)?),
+        }
+    }
+
     /// Adds a result, if it holds by the cases and options of a call.
     fn add(&mut self, head: &ClassHead, kept: KeptResult) -> Result<(), AllocError> {
         let KeptResult {

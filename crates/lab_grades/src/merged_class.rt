@@ -3,7 +3,6 @@
 use crate::grading::{note_rows, whole_report};
 use crate::kept_results::{line_in, no_results, note_damaged};
 use class_results::{KeptPlace, MergeFault, MergedTable, class_of, merged_places, merged_table};
-use expectation_messages::parts::{CommandAnswer, Inputs, LabFault, Status};
 use lab_requests::MergeRequest;
 use plain_text::push_plain;
 use printed_lines::Printer;
@@ -12,6 +11,7 @@ use result_lines::{ClassHead, KeptResult, ResultLine, row_checksum};
 use std::alloc::{AllocError, Global};
 use std::io::{Read, Write};
 use std::rt::Files;
+use submission_rows::parts::{CommandAnswer, Inputs, LabFault, Status};
 
 /// What a file of results has.
 #[derive(Drop)]
@@ -44,23 +44,9 @@ pub fn merge<F: Files, R: Read, W: Write>(
     printer: &mut Printer<'_, W>,
 ) -> Result<CommandAnswer, LabFault> {
     let mut notes = String::new(alloc);
-    let mut parts = Vec::new(alloc);
-    for path in &request.results {
-        parts.push(read_part(alloc, inputs, path, &mut notes)?)?;
-    }
-    check_alike(alloc, &parts)?;
+    let parts = read_parts(alloc, inputs, request, &mut notes)?;
+    let table = table_for(alloc, &parts, &mut notes)?;
     let form = form_of(request, &parts);
-    let class = class_in(alloc, &parts)?;
-    let gathered = gather(alloc, &parts, &class)?;
-    let places = match merged_places(alloc, class.len(), &gathered.places) {
-        Ok(places) => places,
-        Err(MergeFault::NoMemory) => return Err(LabFault::NoMemory),
-        Err(MergeFault::Differ { one, other }) => {
-            return Err(differ(alloc, &gathered, one, other)?);
-        }
-    };
-    let merged = merged_table(alloc, &class, &places)?;
-    let table = table_of(alloc, &merged, &gathered.results, &mut notes)?;
     note_rows(alloc, &mut notes, form.format, &table.paths)?;
     print_table(alloc, form, &table, printer)?;
     let output = whole_report(alloc, form, &table.paths, &table.rows)?;
@@ -70,6 +56,47 @@ pub fn merge<F: Files, R: Read, W: Write>(
         status: table.status(),
         fault: None,
     })
+}
+
+/// Reads the files of results that are asked for.
+fn read_parts<'r, F: Files, R: Read>(
+    alloc: Global,
+    inputs: &mut Inputs<'_, F, R>,
+    request: &MergeRequest<'r>,
+    notes: &mut String,
+) -> Result<Vec<PartFile<'r>>, LabFault> {
+    let mut parts = Vec::new(alloc);
+    for path in &request.results {
+        parts.push(read_part(alloc, inputs, *path, notes)?)?;
+    }
+    Ok(parts)
+}
+
+/// The table of these files.
+fn table_for<'p>(
+    alloc: Global,
+    parts: &'p [PartFile<'_>],
+    notes: &mut String,
+) -> Result<Table<'p>, LabFault> {
+    check_alike(alloc, parts)?;
+    let class = class_in(alloc, parts)?;
+    let gathered = gather(alloc, parts, &class)?;
+    let places = places_in(alloc, &class, &gathered)?;
+    let merged = merged_table(alloc, &class, &places)?;
+    Ok(table_of(alloc, &merged, &gathered.results, notes)?)
+}
+
+/// Which of the results is of each submission of a class, if one is.
+fn places_in(
+    alloc: Global,
+    class: &[&str],
+    gathered: &Gathered<'_>,
+) -> Result<Vec<Option<usize>>, LabFault> {
+    match merged_places(alloc, class.len(), &gathered.places) {
+        Ok(places) => Ok(places),
+        Err(MergeFault::NoMemory) => Err(LabFault::NoMemory),
+        Err(MergeFault::Differ { one, other }) => Err(differ(alloc, gathered, one, other)?),
+    }
 }
 
 /// The rows of a merged table.
@@ -83,7 +110,22 @@ struct Table<'p> {
     lacks_some: bool,
 }
 
-impl Table<'_> {
+impl<'p> Table<'p> {
+    /// Adds the rows of a merged table.
+    fn add_rows(
+        &mut self,
+        merged: &MergedTable<'p>,
+        results: &[&KeptResult],
+    ) -> Result<(), AllocError> {
+        for row in merged.rows.iter() {
+            if let Some(result) = results.get(row.kept) {
+                self.paths.push(row.submission)?;
+                self.rows.push(result.row.copy()?)?;
+            }
+        }
+        Ok(())
+    }
+
     /// What it comes to.
     fn status(&self) -> Status {
         if self.lacks_some {
@@ -102,21 +144,16 @@ fn read_part<'r, F: Files, R: Read>(
     notes: &mut String,
 ) -> Result<PartFile<'r>, LabFault> {
     let text = inputs.read(alloc, path)?;
-    let mut head = None;
-    let mut results = Vec::new(alloc);
+    let mut said = SaidInFile {
+        head: None,
+        results: Vec::new(alloc),
+    };
     for (index, line) in text.split(|byte| *byte == b'\n').enumerate() {
-        if line.is_empty() {
-            continue;
-        }
-        match line_in(alloc, line)? {
-            ResultLine::Head(found) => head = Some(found),
-            ResultLine::Result(_) | ResultLine::Damaged if head.is_none() => {
-                return Err(no_results(alloc, path)?);
-            }
-            ResultLine::Result(kept) => results.push(kept)?,
-            ResultLine::Damaged => note_damaged(notes, path, index)?,
+        if !line.is_empty() {
+            said.take(alloc, path, index, line, notes)?;
         }
     }
+    let SaidInFile { head, results } = said;
     match head {
         Some(head) => Ok(PartFile {
             path,
@@ -124,6 +161,37 @@ fn read_part<'r, F: Files, R: Read>(
             results,
         }),
         None => Err(no_results(alloc, path)?),
+    }
+}
+
+/// What the lines of a file of results say so far.
+#[derive(Drop)]
+struct SaidInFile {
+    /// What its last call was to judge.
+    head: Option<ClassHead>,
+    /// All its results.
+    results: Vec<KeptResult>,
+}
+
+impl SaidInFile {
+    /// Takes what the line of an index says.
+    fn take(
+        &mut self,
+        alloc: Global,
+        path: &str,
+        index: usize,
+        line: &[u8],
+        notes: &mut String,
+    ) -> Result<(), LabFault> {
+        match line_in(alloc, line)? {
+            ResultLine::Head(found) => self.head = Some(found),
+            ResultLine::Result(_) | ResultLine::Damaged if self.head.is_none() => {
+                return Err(no_results(alloc, path)?);
+            }
+            ResultLine::Result(kept) => self.results.push(kept)?,
+            ResultLine::Damaged => note_damaged(notes, path, index)?,
+        }
+        Ok(())
     }
 }
 
@@ -185,29 +253,52 @@ fn gather<'p>(
         paths: Vec::new(alloc),
     };
     for part in parts {
-        let mut last = vec![in alloc; None; class.len()]?;
-        for result in &part.results {
-            if result.basis.cases == part.head.cases
-                && result.basis.options == part.head.options
-                && let Ok(place) = class.binary_search(&result.submission.as_str())
-                && let Some(known) = last.get_mut(place)
-            {
-                *known = Some(result);
-            }
-        }
-        for (place, result) in last.into_iter().enumerate() {
-            if let Some(result) = result {
-                gathered.places.push(KeptPlace {
-                    place,
-                    basis: result.basis,
-                    row: row_checksum(alloc, &result.row)?,
-                })?;
-                gathered.results.push(result)?;
-                gathered.paths.push(part.path)?;
-            }
-        }
+        gathered.add(alloc, part, class)?;
     }
     Ok(gathered)
+}
+
+impl<'p> Gathered<'p> {
+    /// Adds the last result of each submission in a file.
+    fn add(
+        &mut self,
+        alloc: Global,
+        part: &'p PartFile<'_>,
+        class: &[&str],
+    ) -> Result<(), AllocError> {
+        for (place, result) in last_results(alloc, part, class)?.into_iter().enumerate() {
+            if let Some(result) = result {
+                let row = row_checksum(alloc, &result.row)?;
+                self.places.push(KeptPlace {
+                    place,
+                    basis: result.basis,
+                    row,
+                })?;
+                self.results.push(result)?;
+                self.paths.push(part.path)?;
+            }
+        }
+        Ok(())
+    }
+}
+
+/// Of each submission of a class the last result in a file that holds by the cases and options of the file's last call.
+fn last_results<'p>(
+    alloc: Global,
+    part: &'p PartFile<'_>,
+    class: &[&str],
+) -> Result<Vec<Option<&'p KeptResult>>, AllocError> {
+    let mut last = vec![in alloc; None; class.len()]?;
+    for result in &part.results {
+        if result.basis.cases == part.head.cases
+            && result.basis.options == part.head.options
+            && let Ok(place) = (&*class).binary_search(&result.submission.as_str())
+            && let Some(known) = last.get_mut(place)
+        {
+            *known = Some(result);
+        }
+    }
+    Ok(last)
 }
 
 /// What is said of two results of one submission that are not the same.
@@ -240,18 +331,19 @@ fn table_of<'p>(
         rows: Vec::new(alloc),
         lacks_some: !merged.missing.is_empty(),
     };
-    for row in merged.rows.iter() {
-        if let Some(result) = results.get(row.kept) {
-            table.paths.push(row.submission)?;
-            table.rows.push(result.row.clone()?)?;
-        }
-    }
-    for path in merged.missing.iter() {
+    table.add_rows(merged, results)?;
+    note_missing(notes, &merged.missing)?;
+    Ok(table)
+}
+
+/// Notes the submissions that no file has.
+fn note_missing(notes: &mut String, missing: &[&str]) -> Result<(), AllocError> {
+    for path in missing {
         notes.push_str("mta_lab: ")?;
         push_plain(notes, path)?;
         notes.push_str(": no file of results has it\n")?;
     }
-    Ok(table)
+    Ok(())
 }
 
 /// Prints the rows.

@@ -3,7 +3,7 @@
 use class_results::Checksum;
 use lab_requests::Bounds;
 use result_lines::checksum_of;
-use result_lines::judges::Case;
+use result_lines::judges::{AskedJudging, Case};
 use std::alloc::{AllocError, Global};
 use submission_rows::Grading;
 
@@ -13,7 +13,7 @@ pub(crate) fn options_sum(
     version: &str,
     grading: &Grading<'_, '_>,
 ) -> Result<Checksum, AllocError> {
-    let asked = grading.asked();
+    let asked = asked_by(grading);
     let (seeds, most) = (asked.seeds, asked.most);
     let (counts_all, is_hexadecimal) = (asked.counts_all, grading.request.hexadecimal);
     let (is_thorough, needs_names) = (asked.is_thorough, asked.needs_names);
@@ -25,6 +25,16 @@ pub(crate) fn options_sum(
         push_bounds(&mut words, bounds)?;
     }
     Ok(checksum_of(words.as_bytes()))
+}
+
+/// The checksum of these bytes. It has no clause, so that of [`checksum_of`] burdens no proof above it.
+pub(crate) fn sum_of(bytes: &[u8]) -> Checksum {
+    checksum_of(bytes)
+}
+
+/// What is asked of each submission. It has no clause, so that of `asked` burdens no proof above it.
+pub(crate) fn asked_by(grading: &Grading<'_, '_>) -> AskedJudging {
+    grading.asked()
 }
 
 /// Adds how far a search goes.
@@ -47,20 +57,33 @@ fn push_bounds(words: &mut String, bounds: Bounds) -> Result<(), AllocError> {
 pub(crate) fn cases_sum(alloc: Global, cases: &[Case]) -> Result<Checksum, AllocError> {
     let mut all = Vec::new(alloc);
     for case in cases {
-        let name = match &case.name {
-            Some(name) => name.as_str(),
-            None => "",
-        };
-        let gives = case.cells.is_some();
-        let (expected, given) = (case.expected.len(), case.given.len());
-        let named = case.name.is_some();
-        let (long, path) = (name.len(), case.path.len());
-        let sizes = format!(in alloc; "case {named} {long} {path} {expected} {gives} {given}\n")?;
-        all.extend_from_slice(sizes.as_bytes())?;
-        all.extend_from_slice(name.as_bytes())?;
-        all.extend_from_slice(case.path.as_bytes())?;
-        all.extend_from_slice(&case.expected)?;
-        all.extend_from_slice(&case.given)?;
+        push_sizes(alloc, &mut all, case)?;
+        push_case(&mut all, case)?;
     }
     Ok(checksum_of(&all))
+}
+
+/// Adds what parts a case has, and how many bytes each of them has.
+fn push_sizes(alloc: Global, all: &mut Vec<u8>, case: &Case) -> Result<(), AllocError> {
+    let long = match &case.name {
+        Some(name) => name.len(),
+        None => 0,
+    };
+    let gives = case.cells.is_some();
+    let (expected, given) = (case.expected.len(), case.given.len());
+    let (named, path) = (case.name.is_some(), case.path.len());
+    let sizes = format!(in alloc; "case {named} {long} {path} {expected} {gives} {given}\n")?;
+    all.extend_from_slice(sizes.as_bytes())?;
+    Ok(())
+}
+
+/// Adds the parts of a case.
+fn push_case(all: &mut Vec<u8>, case: &Case) -> Result<(), AllocError> {
+    if let Some(name) = &case.name {
+        all.extend_from_slice(name.as_bytes())?;
+    }
+    all.extend_from_slice(case.path.as_bytes())?;
+    all.extend_from_slice(&case.expected)?;
+    all.extend_from_slice(&case.given)?;
+    Ok(())
 }

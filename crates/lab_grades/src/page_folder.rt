@@ -5,7 +5,6 @@ use crate::grade_notes::GradeNotes;
 use crate::page_names::page_names;
 use crate::verdict_pages::page_of_row;
 use class_results::{ClassPart, is_judged};
-use expectation_messages::parts::{Inputs, LabFault, slash_after};
 use lab_requests::GradeRequest;
 use plain_text::{file_name, stem_of};
 use program_pages::searches::Console;
@@ -15,6 +14,7 @@ use std::io::{Read, Write};
 use std::rt::Files;
 use std::time::Clock;
 use submission_rows::Grading;
+use submission_rows::parts::{Inputs, LabFault, slash_after};
 
 /// The folder for pages, where one is asked for, and that for texts.
 #[derive(Drop)]
@@ -51,21 +51,43 @@ impl<'a> PageFolder<'a> {
             notes: GradeNotes::new(alloc),
             fault: None,
         };
-        if pages.folder.is_none() {
-            return Ok(pages);
+        if pages.folder.is_some() {
+            pages.prepare(alloc, inputs, class, part)?;
         }
+        Ok(pages)
+    }
+
+    /// Takes the names of pages and texts, and makes the folders.
+    fn prepare<F: Files, R: Read>(
+        &mut self,
+        alloc: Global,
+        inputs: &mut Inputs<'_, F, R>,
+        class: &[&str],
+        part: Option<ClassPart>,
+    ) -> Result<(), LabFault> {
+        self.add_names(alloc, class, part)?;
+        reserve_all(alloc, inputs, class)?;
+        let (folder, feedback) = (self.folder, self.feedback);
+        let made = self.made(alloc, inputs, folder)?;
+        self.folder = made;
+        let made = self.made(alloc, inputs, feedback)?;
+        self.feedback = made;
+        Ok(())
+    }
+
+    /// Takes what the pages and the texts of a part of a class are called.
+    fn add_names(
+        &mut self,
+        alloc: Global,
+        class: &[&str],
+        part: Option<ClassPart>,
+    ) -> Result<(), AllocError> {
         for (place, name) in page_names(alloc, class)?.into_iter().enumerate() {
             if is_judged(part, place) {
-                pages.names.push(name)?;
+                self.names.push(name)?;
             }
         }
-        reserve_all(alloc, inputs, class)?;
-        let (folder, feedback) = (pages.folder, pages.feedback);
-        let made = pages.made(alloc, inputs, folder)?;
-        pages.folder = made;
-        let made = pages.made(alloc, inputs, feedback)?;
-        pages.feedback = made;
-        Ok(pages)
+        Ok(())
     }
 
     /// A folder, which is made where nothing has its name; None where it can't be made.

@@ -14,23 +14,36 @@ type Counts<'t> = HashMap<&'t [u8], usize>;
 /// second submission that would have a name has `-2` after it, and so on.
 pub(crate) fn page_names(alloc: Global, paths: &[&str]) -> Result<Vec<String>, AllocError> {
     let shared = shared_folders(paths);
+    let stems = stems_of(alloc, paths)?;
+    let of_stem = counts_of(alloc, &stems)?;
+    let mut names = Vec::new(alloc);
+    for (path, stem) in paths.iter().zip(stems.iter()) {
+        let folders = if count_in(&of_stem, stem) > 1 {
+            folders_of(path).get(shared..).unwrap_or("")
+        } else {
+            ""
+        };
+        names.push(page_name(alloc, path, folders, stem)?)?;
+    }
+    set_apart(alloc, &names)
+}
+
+/// The names of files without their endings, as links and systems take them.
+fn stems_of(alloc: Global, paths: &[&str]) -> Result<Vec<String>, AllocError> {
     let mut stems = Vec::new(alloc);
     for path in paths {
         stems.push(plain_name(alloc, stem_of(path))?)?;
     }
-    let of_stem = counts_of(alloc, &stems)?;
-    let mut names = Vec::new(alloc);
-    for (path, stem) in paths.iter().zip(stems.iter()) {
-        let folder = if let Some(folder) = moodle_folder(path) {
-            moodle_name(alloc, folder)?
-        } else if count_in(&of_stem, stem) > 1 {
-            folders_name(alloc, folders_of(path).get(shared..).unwrap_or(""))?
-        } else {
-            String::new(alloc)
-        };
-        names.push(joined(alloc, &folder, stem)?)?;
-    }
-    set_apart(alloc, &names)
+    Ok(stems)
+}
+
+/// The name of a page after the folder that Moodle made, or else after these folders.
+fn page_name(alloc: Global, path: &str, folders: &str, stem: &str) -> Result<String, AllocError> {
+    let folder = match moodle_folder(path) {
+        Some(folder) => moodle_name(alloc, folder)?,
+        None => folders_name(alloc, folders)?,
+    };
+    joined(alloc, &folder, stem)
 }
 
 /// The folders of a path, with a slash after each.

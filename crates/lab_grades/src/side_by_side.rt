@@ -3,7 +3,6 @@
 use crate::class_flow::ClassFlow;
 use crate::class_stages::{Desk, Job, Next, Outcome};
 use crossbeam_channel::{Receiver, Sender, bounded};
-use expectation_messages::parts::LabFault;
 use lab_requests::GradeRequest;
 use program_pages::searches::Console;
 use rayon::current_num_threads;
@@ -15,6 +14,7 @@ use std::sync::Wait;
 use std::thread;
 use std::thread::Threads;
 use std::time::{Clock, Duration};
+use submission_rows::parts::LabFault;
 use submission_rows::{Grading, most_searches, row_on};
 
 /// How many milliseconds pass at most before progress is shown again.
@@ -68,19 +68,30 @@ fn judge_in_turn<X: Threads + Wait + Sync + Clock, F: Files, R: Read, W: Write, 
         if flow.may_read() {
             if let Next::Judge(job) = flow.read_next(alloc, desk)? {
                 flow.show(desk);
-                let Job { place, program } = job;
-                let row = row_on(rt, alloc, grading, &program, desk.console);
-                let outcome = Outcome {
-                    place,
-                    program,
-                    row,
-                };
+                let outcome = judged(rt, alloc, grading, job, desk.console);
                 flow.take(alloc, desk, outcome)?;
             }
         }
         flow.write_ready(alloc, desk)?;
     }
     Ok(())
+}
+
+/// A submission, judged. It has no clause, so what [`row_on`] promises burdens no proof above it.
+fn judged<X: Threads + Sync, C: Clock, E: Write>(
+    rt: &X,
+    alloc: Global,
+    grading: &Grading<'_, '_>,
+    job: Job,
+    console: &mut Console<'_, C, E>,
+) -> Outcome {
+    let Job { place, program } = job;
+    let row = row_on(rt, alloc, grading, &program, console);
+    Outcome {
+        place,
+        program,
+        row,
+    }
 }
 
 /// Judges them on threads, as many as there are jobs, and where the system has none one after the other.
@@ -129,13 +140,7 @@ fn work<X: Threads + Wait + Sync + Clock>(
         memory: unread_memory(rt),
     };
     for job in jobs.iter(rt) {
-        let Job { place, program } = job;
-        let row = row_on(rt, alloc, grading, &program, &mut console);
-        let outcome = Outcome {
-            place,
-            program,
-            row,
-        };
+        let outcome = judged(rt, alloc, grading, job, &mut console);
         if outcomes.send(rt, outcome).is_err() {
             return;
         }

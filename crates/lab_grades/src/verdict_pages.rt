@@ -1,8 +1,7 @@
 //! The pages of verdicts: runs that show that submissions are not right.
 
-use expectation_messages::parts::{LabFault, Program, made_by};
+use crate::option_sums::asked_by;
 use lab_requests::{Bounds, MOST_PLAYED, Maker};
-use lab_texts::ProgramNames;
 use processor::Step;
 use program_pages::searches::Console;
 use program_pages::{PlayPage, PlayedProgram, page_bounds, play_page, replay_page};
@@ -12,6 +11,8 @@ use result_lines::reports::{CaseRow, GradeRow, case_for_student};
 use std::alloc::{AllocError, Global};
 use std::io::Write;
 use std::time::Clock;
+use submission_rows::parts::texts::ProgramNames;
+use submission_rows::parts::{LabFault, Program, made_by};
 use submission_rows::{Grading, given_by};
 
 /// What the page of a run by a schedule of a search calls it.
@@ -141,7 +142,7 @@ fn page_of_all<C: Clock, E: Write>(
 /// How far the search for the states of a page goes: up to those of a page, by the time and the memory of the search that
 /// judges a submission.
 fn bounds_of_page(grading: &Grading<'_, '_>) -> Bounds {
-    match grading.asked().explored {
+    match asked_by(grading).explored {
         Some(bounds) => Bounds {
             worlds: MOST_PLAYED,
             ..bounds

@@ -1,10 +1,10 @@
 //! The command `page`.
 
 use crate::answers::page_answer;
-use asked_programs::{EndRound, read_asked_program, round_asked};
+use asked_programs::{read_asked_program, round_asked};
+use expectation_messages::parts::texts::{Notation, NumberStyle, ProgramNames};
 use expectation_messages::parts::{CommandAnswer, Inputs, LabFault, Program, steps_of};
 use lab_requests::{Maker, PageRequest, RunChoice};
-use lab_texts::{Notation, NumberStyle, ProgramNames};
 use plain_text::{file_name, stem_of};
 use processor::Step;
 use replay_page::{
@@ -69,21 +69,7 @@ fn round_text(
     size: usize,
 ) -> Result<String, LabFault> {
     let program = &run.program;
-    let places = ProgramNames::of(alloc, &program.text)?;
-    let notation = Notation {
-        names: &places,
-        style: NumberStyle::Decimal,
-    };
-    let EndRound {
-        begin,
-        steps,
-        times,
-    } = round_asked(alloc, program, notation, &run.steps, size)?;
-    let round = MarkedRound {
-        after: begin,
-        steps,
-        times,
-    };
+    let round = marked_round(alloc, program, &run.steps, size)?;
     Ok(page_of_round(
         alloc,
         names,
@@ -92,6 +78,26 @@ fn round_text(
         &program.image,
         &run.steps,
     )?)
+}
+
+/// The round that the last steps of a program's run are, so many of them.
+fn marked_round(
+    alloc: Global,
+    program: &Program,
+    steps: &[Step],
+    size: usize,
+) -> Result<MarkedRound, LabFault> {
+    let places = ProgramNames::of(alloc, &program.text)?;
+    let notation = Notation {
+        names: &places,
+        style: NumberStyle::Decimal,
+    };
+    let round = round_asked(alloc, program, notation, steps, size)?;
+    Ok(MarkedRound {
+        after: round.begin,
+        steps: round.steps,
+        times: round.times,
+    })
 }
 
 /// The page of two runs, the second by this schedule.
@@ -104,6 +110,17 @@ fn pair_text<F: Files, R: Read>(
     let first = run_to_show(alloc, inputs, request, MOST_STEPS_OF_TWO)?;
     let second = steps_of(alloc, inputs, &first.program, other)?;
     check_length(alloc, request.out, second.len(), MOST_STEPS_OF_TWO)?;
+    Ok(pair_page(alloc, request, &first, other, &second)?)
+}
+
+/// The page of a run and a second one of its program, by this schedule, whose steps these are.
+fn pair_page(
+    alloc: Global,
+    request: &PageRequest,
+    first: &RunToShow,
+    other: RunChoice,
+    second: &[Step],
+) -> Result<String, AllocError> {
     let one = schedule_words(alloc, request.run)?;
     let other = schedule_words(alloc, other)?;
     let names = PairNames {
@@ -112,14 +129,14 @@ fn pair_text<F: Files, R: Read>(
         other: &other,
     };
     let program = &first.program;
-    Ok(page_of_pair(
+    page_of_pair(
         alloc,
         names,
         &program.text,
         &program.image,
         &first.steps,
-        &second,
-    )?)
+        second,
+    )
 }
 
 /// A program and the steps by which it runs.

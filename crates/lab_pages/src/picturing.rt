@@ -19,9 +19,25 @@ pub fn write_picture<F: Files, R: Read>(
     if request.from > request.to {
         return Err(none_drawn(alloc, request)?);
     }
+    let picture = picture_asked(alloc, inputs, request)?;
+    inputs.write(alloc, request.out, picture.as_bytes())?;
+    Ok(CommandAnswer::silent(alloc))
+}
+
+/// The picture that is asked for.
+fn picture_asked<F: Files, R: Read>(
+    alloc: Global,
+    inputs: &mut Inputs<'_, F, R>,
+    request: &PageRequest,
+) -> Result<String, LabFault> {
     let mut run = run_to_show(alloc, inputs, request, MOST_STEPS)?;
     run.steps.truncate(request.to);
-    let count = run.steps.len();
+    check_drawn(alloc, request, run.steps.len())?;
+    Ok(picture_text(alloc, request, &run)?)
+}
+
+/// Refuses steps that begin after the last of so many, and more than are drawn.
+fn check_drawn(alloc: Global, request: &PageRequest, count: usize) -> Result<(), LabFault> {
     if request.from > count.max(1) {
         return Err(past_end(alloc, request.from, count)?);
     }
@@ -29,9 +45,7 @@ pub fn write_picture<F: Files, R: Read>(
     if drawn > MOST_DRAWN_STEPS {
         return Err(too_many(alloc, request.out, drawn)?);
     }
-    let picture = picture_text(alloc, request, &run)?;
-    inputs.write(alloc, request.out, picture.as_bytes())?;
-    Ok(CommandAnswer::silent(alloc))
+    Ok(())
 }
 
 /// What is said of steps that end before they begin.

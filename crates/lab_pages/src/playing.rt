@@ -3,14 +3,14 @@
 use crate::answers::page_answer;
 use asked_programs::read_asked_program;
 use expectation_files::Requirements;
+use expectation_messages::parts::texts::ProgramNames;
 use expectation_messages::parts::{CommandAnswer, Inputs, LabFault, Program, read_steps};
 use expectation_messages::requirements_of;
 use lab_requests::PlayRequest;
-use lab_texts::ProgramNames;
 use plain_text::{plain, stem_of};
 use processor::Step;
 use program_pages::goals::EndGoal;
-use program_pages::searches::Console;
+use program_pages::searches::{Console, SearchBound};
 use program_pages::{
     PageChoices, PlayPage, PlayedProgram, page_bounds, page_of_schedules, too_large,
 };
@@ -40,32 +40,61 @@ pub fn write_play_page<C: Clock, F: Files, R: Read, E: Write>(
     request: &PlayRequest,
     console: &mut Console<'_, C, E>,
 ) -> Result<CommandAnswer, LabFault> {
+    let page = page_asked(alloc, inputs, request, console)?;
+    inputs.write(alloc, request.out, page.as_bytes())?;
+    page_answer(alloc, request.out)
+}
+
+/// The page that is asked for.
+fn page_asked<C: Clock, F: Files, R: Read, E: Write>(
+    alloc: Global,
+    inputs: &mut Inputs<'_, F, R>,
+    request: &PlayRequest,
+    console: &mut Console<'_, C, E>,
+) -> Result<String, LabFault> {
     let program = read_asked_program(alloc, inputs, request.program, request.given)?;
-    let names = ProgramNames::of(alloc, &program.text)?;
     let required = requirements_asked(alloc, inputs, request, &program)?;
     let begin = begin_asked(alloc, inputs, request, &program)?;
+    page_of_program(alloc, request, &program, &required, &begin, console)
+}
+
+/// The page of a program, of which this is required, by schedules that begin with these steps.
+fn page_of_program<C: Clock, E: Write>(
+    alloc: Global,
+    request: &PlayRequest,
+    program: &Program,
+    required: &Requirements,
+    begin: &[Step],
+    console: &mut Console<'_, C, E>,
+) -> Result<String, LabFault> {
+    let names = ProgramNames::of(alloc, &program.text)?;
     let played = PlayedProgram {
         called: program_name(request),
-        program: &program,
+        program,
         names: &names,
-        required: &required,
+        required,
         opened: &[],
     };
-    let bounds = page_bounds(request.states);
     let choices = PageChoices {
-        begin: &begin,
-        bounds,
+        begin,
+        bounds: page_bounds(request.states),
         goal: request.goal.map(|word| EndGoal::of_word(word)),
     };
     match page_of_schedules(alloc, &played, choices, console)? {
-        PlayPage::Written(page) => inputs.write(alloc, request.out, page.as_bytes())?,
-        PlayPage::TooLarge(bound) => {
-            let why = too_large(alloc, bounds, bound)?;
-            return Err(unwritten(alloc, request, &why)?);
-        }
-        PlayPage::NoSuchEnd => return Err(no_such_end(alloc, request)?),
+        PlayPage::Written(page) => Ok(page),
+        PlayPage::TooLarge(bound) => Err(too_many_states(alloc, request, bound)?),
+        PlayPage::NoSuchEnd => Err(no_such_end(alloc, request)?),
     }
-    page_answer(alloc, request.out)
+}
+
+/// What is said of a program whose search came to this bound.
+fn too_many_states(
+    alloc: Global,
+    request: &PlayRequest,
+    bound: SearchBound,
+) -> Result<LabFault, AllocError> {
+    let why = too_large(alloc, page_bounds(request.states), bound)?;
+    unwritten(alloc, request, &why)
 }
 
 /// What is required of the program; nothing where no file says it.

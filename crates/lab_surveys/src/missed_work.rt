@@ -1,13 +1,13 @@
 //! What a survey says of who does the work in its runs.
 
 use crate::survey_objects::SurveyInput;
-use command_parts::push_object;
 use end_kinds::Status;
 use expectation_files::WrittenLine;
 use image_file::Image;
 use image_machines::by_room;
 use lab_json::{Object, digits, line_value};
 use schedule_makers::MadeEnd;
+use search_texts::parts::push_object;
 use search_texts::work_words;
 use seed_outcomes::SurveySeeds;
 use seed_outcomes::seeds::Seeds;

@@ -1,14 +1,14 @@
 //! The outcomes of a survey in words.
 
 use crate::survey_objects::SurveyInput;
-use command_parts::made_by;
+use expectation_messages::parts::texts::Notation;
 use image_file::Image;
 use image_machines::by_room;
 use lab_requests::Maker;
-use lab_texts::Notation;
 use processor::Step;
 use rayon::prelude::*;
 use search_texts::ends_in_words::{first_finding, state_text};
+use search_texts::parts::made_by;
 use seed_outcomes::SeedOutcome;
 use std::alloc::{AllocError, Global};
 use std::thread::Threads;

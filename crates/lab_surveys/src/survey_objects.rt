@@ -1,12 +1,12 @@
 //! What is said of a survey as objects (docs/LAB_REFERENCE.md, "JSON").
 
 use crate::coverage::can_go_on_forever;
-use command_parts::{Program, made_by, push_object};
 use expectation_files::Requirements;
 use lab_json::{Fields, Object, digits, line_value, object_of, put_run};
 use lab_requests::Maker;
 use rayon::prelude::*;
 use search_texts::ends_in_words::BrokenLine;
+use search_texts::parts::{Program, made_by, push_object};
 use search_texts::searches::Explored;
 use search_texts::{ExpectedLines, put_bound};
 use seed_outcomes::SeedOutcome;

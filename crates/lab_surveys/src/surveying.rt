@@ -5,13 +5,13 @@ use crate::missed_work::push_missed_work;
 use crate::outcome_words::{OutcomeWords, words_of_outcomes};
 use crate::survey_objects::{SurveyInput, broken_words, push_outcome_objects};
 use asked_programs::{WarnedProgram, read_warned_program};
-use command_parts::{CommandAnswer, Inputs, LabFault, style_of};
 use expectation_files::Requirements;
+use expectation_messages::parts::texts::{Notation, ProgramNames};
 use expectation_messages::requirements_of;
 use lab_requests::{Bounds, SurveyRequest};
-use lab_texts::{Notation, ProgramNames};
 use plain_text::push_plain;
 use program_rules::first_broken;
+use search_texts::parts::{CommandAnswer, Inputs, LabFault, style_of};
 use search_texts::searches::{
     Console, Explored, ProgramSearch, Unkept, UnkeptWaits, explore_program,
 };
@@ -239,11 +239,10 @@ fn push_judgement(
     text: &str,
 ) -> Result<(), AllocError> {
     let judgement = outcome.judgement;
-    let is_judged = !required.ends().is_empty() || !required.claims().is_empty();
     let is_flawed = judgement.missed.is_some()
         || judgement.broken.is_some()
         || judgement.is_trapped;
-    if !is_judged || !is_flawed {
+    if required.is_nothing() || !is_flawed {
         return Ok(());
     }
     out.push_str(if text.is_empty() { "" } else { "   " })?;

@@ -11,7 +11,7 @@ use std::alloc::AllocError;
 
 /// How findings are shown: by which names, in which numbers, of a run with which steps.
 #[derive(Clone, Copy)]
-pub struct Telling<'a, 't> {
+pub struct FindingTexts<'a, 't> {
     /// The names of the program.
     pub names: &'a ProgramNames<'t>,
     /// How numbers are shown.
@@ -23,26 +23,26 @@ pub struct Telling<'a, 't> {
 /// Adds the findings of a run, a line each, the first ten of each kind.
 pub fn push_findings(
     out: &mut String,
-    telling: &Telling<'_, '_>,
+    texts: &FindingTexts<'_, '_>,
     found: &FindingsOfRun,
 ) -> Result<(), AllocError> {
     let mut text = TextWriter::take(out);
-    put_findings(&mut text, telling, found);
+    put_findings(&mut text, texts, found);
     text.give_back(out)
 }
 
 /// Adds what [`push_findings`] does.
-pub fn put_findings(out: &mut TextWriter, telling: &Telling<'_, '_>, found: &FindingsOfRun) {
-    telling.put_all_lost(out, &found.lost);
-    telling.put_all_torn(out, &found.torn);
-    telling.put_all_unread(out, &found.unread);
+pub fn put_findings(out: &mut TextWriter, texts: &FindingTexts<'_, '_>, found: &FindingsOfRun) {
+    texts.put_all_lost(out, &found.lost);
+    texts.put_all_torn(out, &found.torn);
+    texts.put_all_unread(out, &found.unread);
 }
 
 /// Adds the first finding of a run that is about one of these words, else the first of all, without an end of the line, and
 /// how many more there are; nothing where there is none.
 pub fn push_first_finding(
     out: &mut String,
-    telling: &Telling<'_, '_>,
+    texts: &FindingTexts<'_, '_>,
     found: &FindingsOfRun,
     words: &[WordRange],
 ) -> Result<(), AllocError> {
@@ -50,13 +50,13 @@ pub fn push_first_finding(
     let first = first_finding(&found.lost, &found.torn, &found.unread, words);
     match first {
         Some(FindingPlace::Lost(place)) => if let Some(update) = found.lost.get(place) {
-            telling.put_lost(&mut text, update);
+            texts.put_lost(&mut text, update);
         }
         Some(FindingPlace::Torn(place)) => if let Some(read) = found.torn.get(place) {
-            telling.put_torn(&mut text, read);
+            texts.put_torn(&mut text, read);
         }
         Some(FindingPlace::Unread(place)) => if let Some(store) = found.unread.get(place) {
-            telling.put_unread(&mut text, store);
+            texts.put_unread(&mut text, store);
         }
         None => {}
     }
@@ -64,7 +64,7 @@ pub fn push_first_finding(
     text.give_back(out)
 }
 
-impl Telling<'_, '_> {
+impl FindingTexts<'_, '_> {
     /// Adds lost updates, a line each.
     fn put_all_lost(&self, out: &mut TextWriter, updates: &[LostUpdate]) {
         for update in updates.iter().take(MOST_OF_A_KIND) {

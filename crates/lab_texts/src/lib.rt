@@ -20,7 +20,7 @@ pub use differences::{
     push_changed_words, push_differences, push_differing_words, put_differing_words,
 };
 pub use ends::{RunEnd, StoppedStream, end_of, push_end, put_end, stopped_streams};
-pub use findings::{Telling, push_findings, push_first_finding, put_findings};
+pub use findings::{FindingTexts, push_findings, push_first_finding, put_findings};
 pub use findings_of_run::{FindingsOfRun, MOST_STEPS_OF_TORN};
 pub use first_findings::WordRange;
 pub use names::ProgramNames;

@@ -1,17 +1,18 @@
 //! The command `compare`.
 
-use crate::run_status::status_of_run;
+use crate::run_ends::{push_end_object, status_of_run};
 use asked_programs::read_asked_program;
+use command_parts::texts::{
+    Notation, ProgramNames, RunEnd, end_of, push_differences, push_differing_words, push_end,
+    push_stream,
+};
 use command_parts::{
     CommandAnswer, Inputs, LabFault, Program, Status, push_object, steps_of, style_of,
 };
 use image_machines::{by_room, loaded};
 use lab_ends::push_findings_of_run;
-use lab_json::{difference_value, end_value, parting_value};
+use lab_json::{difference_value, parting_value};
 use lab_requests::{RunChoice, Shown};
-use lab_texts::{
-    Notation, ProgramNames, end_of, push_differences, push_differing_words, push_end, push_stream,
-};
 use machine::{LoadFault, Machine};
 use processor::Step;
 use std::alloc::{AllocError, Global};
@@ -35,9 +36,20 @@ pub fn compare<F: Files, R: Read>(
     let program = read_asked_program(alloc, inputs, path, given)?;
     let first = steps_of(alloc, inputs, &program, one)?;
     let second = steps_of(alloc, inputs, &program, other)?;
+    compare_runs(alloc, &program, &first, &second, shown)
+}
+
+/// Compares the runs of a program by two schedules.
+fn compare_runs(
+    alloc: Global,
+    program: &Program,
+    first: &[Step],
+    second: &[Step],
+    shown: Shown,
+) -> Result<CommandAnswer, LabFault> {
     let (output, status) = by_room!(
         program.image,
-        compare_on(alloc, &program, &first, &second, shown)
+        compare_on(alloc, program, first, second, shown)
     )?;
     Ok(CommandAnswer::printed(alloc, output, status))
 }
@@ -51,21 +63,16 @@ fn compare_on<const S: usize>(
     shown: Shown,
 ) -> Result<(String, Status), AllocError> {
     let names = ProgramNames::of(alloc, &program.text)?;
+    let one = Run::<S>::of(alloc, program, first)?;
+    let other = Run::<S>::of(alloc, program, second)?;
     let runs = ComparedRuns {
-        one: Run::<S>::of(alloc, program, first)?,
-        other: Run::<S>::of(alloc, program, second)?,
+        one: &one,
+        other: &other,
         shown,
         names: &names,
     };
     let mut out = String::new(alloc);
-    let shared = shared_steps(first, second);
-    if shared < first.len().max(second.len()) {
-        runs.push_parting(alloc, &mut out, shared)?;
-    }
-    if let Some(difference) = difference_of::<S>(alloc, program, first, second)? {
-        runs.push_difference(alloc, &mut out, &difference)?;
-    }
-    let status = runs.push_ends(alloc, &mut out)?;
+    let status = runs.push_all(alloc, &mut out, program, first, second)?;
     Ok((out, status))
 }
 
@@ -119,19 +126,17 @@ impl<'i, const S: usize> Run<'i, S> {
         Ok(Run { machine, views })
     }
 
-    /// The step of this place in words, where it took one.
-    fn step_words(
+    /// Adds the step of this place in words, where it took one.
+    fn push_step(
         &self,
-        alloc: Global,
+        out: &mut String,
         names: &ProgramNames,
         place: usize,
-    ) -> Result<String, AllocError> {
-        let mut words = String::new(alloc);
+    ) -> Result<(), AllocError> {
         match self.views.get(place) {
-            Some(view) => push_step_words(&mut words, names, view)?,
-            None => words.push_str("it has ended")?,
+            Some(view) => push_step_words(out, names, view),
+            None => out.push_str("it has ended"),
         }
-        Ok(words)
     }
 }
 
@@ -156,13 +161,33 @@ fn push_step_words(
 /// Two runs of a program, and how they are shown.
 #[derive(Drop)]
 struct ComparedRuns<'i, 'n, 't, const S: usize> {
-    one: Run<'i, S>,
-    other: Run<'i, S>,
+    one: &'n Run<'i, S>,
+    other: &'n Run<'i, S>,
     shown: Shown,
     names: &'n ProgramNames<'t>,
 }
 
 impl<'n, 't, const S: usize> ComparedRuns<'_, 'n, 't, S> {
+    /// Adds the comparison of the runs, which are those of a program by these schedules, and gives the exit status.
+    fn push_all(
+        &self,
+        alloc: Global,
+        out: &mut String,
+        program: &Program,
+        first: &[Step],
+        second: &[Step],
+    ) -> Result<Status, AllocError> {
+        let shared = shared_steps(first, second);
+        if shared < first.len().max(second.len()) {
+            self.push_parting(alloc, out, shared)?;
+        }
+        let difference = difference_of::<S>(alloc, program, first, second)?;
+        if let Some(difference) = &difference {
+            self.push_difference(alloc, out, difference)?;
+        }
+        self.push_ends(alloc, out)
+    }
+
     /// Adds the step at which they part, which is that of this place; each says whether it took one.
     fn push_parting(
         &self,
@@ -177,9 +202,11 @@ impl<'n, 't, const S: usize> ComparedRuns<'_, 'n, 't, S> {
             let value = parting_value(alloc, self.names, number, one, other)?;
             return push_object(alloc, out, &value);
         }
-        let one = self.one.step_words(alloc, self.names, place)?;
-        let other = self.other.step_words(alloc, self.names, place)?;
-        write!(out, "step {number}: {one} | {other}\n")
+        write!(out, "step {number}: ")?;
+        self.one.push_step(out, self.names, place)?;
+        out.push_str(" | ")?;
+        self.other.push_step(out, self.names, place)?;
+        out.push_str("\n")
     }
 
     /// Adds the first position at which the worlds differ, and in what.
@@ -209,23 +236,43 @@ impl<'n, 't, const S: usize> ComparedRuns<'_, 'n, 't, S> {
 
     /// Adds how both ended. The exit status is the worse of theirs.
     fn push_ends(&self, alloc: Global, out: &mut String) -> Result<Status, AllocError> {
-        let mut status = Status::Done;
-        for (name, run) in [("one", &self.one), ("other", &self.other)] {
-            let end = end_of(alloc, &run.machine, &run.views)?;
-            status = status.worse(status_of_run(&end));
-            let steps = steps_taken(alloc, &run.views)?;
-            if self.shown.json {
-                let value = end_value(alloc, &end, &run.machine, &steps)?;
-                push_object(alloc, out, &value)?;
-            } else {
-                write!(out, "{name}: ")?;
-                push_end(out, self.names, run.views.len(), &end)?;
-                let style = style_of(self.shown);
-                push_differing_words(out, self.names, style, &run.machine)?;
-                let image = run.machine.image();
-                push_findings_of_run::<S>(alloc, out, self.names, style, image, &steps)?;
-            }
+        let one = self.push_end_of(alloc, out, "one: ", self.one)?;
+        let other = self.push_end_of(alloc, out, "other: ", self.other)?;
+        Ok(Status::Done.worse(one).worse(other))
+    }
+
+    /// Adds how a run ended, in words after its name, and gives its exit status.
+    fn push_end_of(
+        &self,
+        alloc: Global,
+        out: &mut String,
+        name: &str,
+        run: &Run<'_, S>,
+    ) -> Result<Status, AllocError> {
+        let end = end_of(alloc, &run.machine, &run.views)?;
+        let steps = steps_taken(alloc, &run.views)?;
+        if self.shown.json {
+            push_end_object(alloc, out, &end, &run.machine, &steps)?;
+        } else {
+            out.push_str(name)?;
+            self.push_end_words(alloc, out, run, &end, &steps)?;
         }
-        Ok(status)
+        Ok(status_of_run(&end))
+    }
+
+    /// Adds how the run of these steps ended, in words, and its findings.
+    fn push_end_words(
+        &self,
+        alloc: Global,
+        out: &mut String,
+        run: &Run<'_, S>,
+        end: &RunEnd,
+        steps: &[Step],
+    ) -> Result<(), AllocError> {
+        push_end(out, self.names, run.views.len(), end)?;
+        let style = style_of(self.shown);
+        push_differing_words(out, self.names, style, &run.machine)?;
+        let image = run.machine.image();
+        push_findings_of_run::<S>(alloc, out, self.names, style, image, steps)
     }
 }

@@ -1,6 +1,6 @@
 //! Lines of steps, of which a loop that repeats is folded.
 
-use lab_texts::{Columns, push_step_number};
+use command_parts::texts::{Columns, push_step_number};
 use std::alloc::{AllocError, Global};
 
 /// The most lines of a loop that is folded.

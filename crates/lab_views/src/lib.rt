@@ -5,7 +5,7 @@ mod comparing;
 mod folding;
 mod reasons;
 mod round_marks;
-mod run_status;
+mod run_ends;
 mod shown_steps;
 mod viewing;
 

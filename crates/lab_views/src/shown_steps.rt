@@ -1,9 +1,9 @@
 //! Which steps of a run `view` shows.
 
+use command_parts::texts::{ProgramNames, plural};
 use command_parts::{LabFault, Program};
 use image_file::Image;
 use lab_requests::ViewRequest;
-use lab_texts::{ProgramNames, plural};
 use processor::Step;
 use std::alloc::{AllocError, Global};
 use step_views::{Place, StepView};
@@ -17,8 +17,50 @@ pub(crate) struct Only {
     pub word: Option<u64>,
 }
 
+/// The stream of whose steps alone is shown, where one is asked.
+pub(crate) fn stream_asked(alloc: Global, request: &ViewRequest) -> Result<Option<Step>, LabFault> {
+    match request.only {
+        Some(name) => Ok(Some(stream_named(alloc, name)?)),
+        None => Ok(None),
+    }
+}
+
+/// Which steps of a program are shown: those of this stream, and those that use the word that is asked.
+pub(crate) fn only_asked(
+    alloc: Global,
+    request: &ViewRequest,
+    stream: Option<Step>,
+    program: &Program,
+) -> Result<Only, LabFault> {
+    check_stream(alloc, stream, &program.image)?;
+    let word = match request.word {
+        Some(text) => Some(word_named(alloc, text, program)?),
+        None => None,
+    };
+    Ok(Only { stream, word })
+}
+
+/// The streams of a schedule in the order of processor and stream, where each is to have a column.
+pub(crate) fn lanes_of(
+    alloc: Global,
+    request: &ViewRequest,
+    steps: &[Step],
+) -> Result<Vec<Step>, AllocError> {
+    let mut lanes = Vec::new(alloc);
+    if !request.columns {
+        return Ok(lanes);
+    }
+    for step in steps {
+        if !lanes.contains(step) {
+            lanes.push(*step)?;
+        }
+    }
+    lanes.sort_by_key(|step: &Step| (step.p, step.s))?;
+    Ok(lanes)
+}
+
 /// The stream that a name such as `2.0` names.
-pub(crate) fn stream_named(alloc: Global, name: &str) -> Result<Step, LabFault> {
+fn stream_named(alloc: Global, name: &str) -> Result<Step, LabFault> {
     if let Some((p, s)) = name.split_once('.')
         && let (Ok(p), Ok(s)) = (p.parse::<u8>(), s.parse::<u8>())
     {
@@ -39,11 +81,7 @@ pub(crate) fn check_range(alloc: Global, request: &ViewRequest) -> Result<(), La
 }
 
 /// Refuses a stream that the image has not.
-pub(crate) fn check_stream(
-    alloc: Global,
-    only: Option<Step>,
-    image: &Image,
-) -> Result<(), LabFault> {
+fn check_stream(alloc: Global, only: Option<Step>, image: &Image) -> Result<(), LabFault> {
     let Some(Step { p, s }) = only else {
         return Ok(());
     };
@@ -58,13 +96,8 @@ pub(crate) fn check_stream(
 }
 
 /// The byte address of the word of a program that a text says, by its address or its name.
-pub(crate) fn word_named(alloc: Global, text: &str, program: &Program) -> Result<u64, LabFault> {
-    let names = ProgramNames::of(alloc, &program.text)?;
-    let Some(address) = names.address_of(text) else {
-        let mut words = String::from_str(alloc, "--word: ")?;
-        names.push_no_address(alloc, &mut words, text)?;
-        return Err(LabFault::Words(words));
-    };
+fn word_named(alloc: Global, text: &str, program: &Program) -> Result<u64, LabFault> {
+    let address = address_named(alloc, text, program)?;
     let bytes = (program.image.cells().len() as u64).saturating_mul(8);
     if address % 8 == 0 && address < bytes {
         return Ok(address);
@@ -72,6 +105,22 @@ pub(crate) fn word_named(alloc: Global, text: &str, program: &Program) -> Result
     Err(LabFault::Words(format!(in alloc;
         "--word {address}: the memory has no such word: multiples of 8 below {bytes}"
     )?))
+}
+
+/// The byte address that a text says by a number, or by a name of a program.
+fn address_named(alloc: Global, text: &str, program: &Program) -> Result<u64, LabFault> {
+    let names = ProgramNames::of(alloc, &program.text)?;
+    match names.address_of(text) {
+        Some(address) => Ok(address),
+        None => Err(no_address(alloc, text, &names)?),
+    }
+}
+
+/// That a text says no byte address.
+fn no_address(alloc: Global, text: &str, names: &ProgramNames<'_>) -> Result<LabFault, AllocError> {
+    let mut words = String::from_str(alloc, "--word: ")?;
+    names.push_no_address(alloc, &mut words, text)?;
+    Ok(LabFault::Words(words))
 }
 
 /// Whether the step of this number is shown.

@@ -3,22 +3,22 @@
 use crate::folding::StepLines;
 use crate::reasons::view_reason;
 use crate::round_marks::{RunPart, parts_of, push_mark, push_return, round_value};
-use crate::run_status::status_of_run;
+use crate::run_ends::{push_end_object, status_of_run};
 use crate::shown_steps::{
-    Only, check_range, check_stream, is_shown, push_no_step, stream_named, word_named,
+    Only, check_range, is_shown, lanes_of, only_asked, push_no_step, stream_asked,
 };
 use asked_programs::{EndRound, read_asked_program, round_asked};
+use command_parts::texts::{
+    Columns, Notation, ProgramNames, RunEnd, end_of, push_differing_words, push_end,
+    push_lane_head, push_lane_text, push_step_head, push_step_text,
+};
 use command_parts::{
     CommandAnswer, Inputs, LabFault, Program, Status, push_object, steps_of, style_of,
 };
 use image_machines::{by_room, loaded};
 use lab_ends::RunFindings;
-use lab_json::{RunTitle, end_value, head_value, step_value};
+use lab_json::{RunTitle, head_value, step_value};
 use lab_requests::{RunChoice, ViewRequest};
-use lab_texts::{
-    Columns, Notation, ProgramNames, RunEnd, end_of, push_differing_words, push_end,
-    push_lane_head, push_lane_text, push_step_head, push_step_text,
-};
 use machine::Machine;
 use processor::Step;
 use std::alloc::{AllocError, Global};
@@ -36,23 +36,23 @@ pub fn view<F: Files, R: Read>(
     if let Some(text) = request.why {
         return view_reason(alloc, inputs, request, text);
     }
-    let stream = match request.only {
-        Some(name) => Some(stream_named(alloc, name)?),
-        None => None,
-    };
+    let stream = stream_asked(alloc, request)?;
     check_range(alloc, request)?;
     let program = read_asked_program(alloc, inputs, request.program, request.given)?;
-    check_stream(alloc, stream, &program.image)?;
-    let word = match request.word {
-        Some(text) => Some(word_named(alloc, text, &program)?),
-        None => None,
-    };
-    let only = Only { stream, word };
+    let only = only_asked(alloc, request, stream, &program)?;
     let steps = steps_of(alloc, inputs, &program, request.run)?;
-    let (output, status) = by_room!(
-        program.image,
-        view_on(alloc, &program, &steps, request, only)
-    )?;
+    view_program(alloc, &program, &steps, request, only)
+}
+
+/// Shows a run of a program by these steps.
+fn view_program(
+    alloc: Global,
+    program: &Program,
+    steps: &[Step],
+    request: &ViewRequest,
+    only: Only,
+) -> Result<CommandAnswer, LabFault> {
+    let (output, status) = by_room!(program.image, view_on(alloc, program, steps, request, only))?;
     Ok(CommandAnswer::printed(alloc, output, status))
 }
 
@@ -66,20 +66,17 @@ fn view_on<const S: usize>(
 ) -> Result<(String, Status), LabFault> {
     let names = ProgramNames::of(alloc, &program.text)?;
     let round = round_of_request(alloc, program, &names, steps, request)?;
+    let lanes = lanes_of(alloc, request, steps)?;
     let layout = Layout {
         names: &names,
         request: *request,
         only,
         columns: Columns::of(&names, steps.len()),
-        lanes: lanes_of(alloc, request, steps)?,
+        lanes: &lanes,
         round,
     };
     let mut out = String::new(alloc);
-    let status = if request.shown.json {
-        layout.push_objects::<S>(alloc, &mut out, program, steps)?
-    } else {
-        layout.push_words::<S>(alloc, &mut out, program, steps)?
-    };
+    let status = layout.push_run::<S>(alloc, &mut out, program, steps)?;
     Ok((out, status))
 }
 
@@ -99,21 +96,6 @@ fn round_of_request(
         style: style_of(request.shown),
     };
     Ok(Some(round_asked(alloc, program, notation, steps, size)?))
-}
-
-/// The streams of a schedule in the order of processor and stream, where each is to have a column.
-fn lanes_of(alloc: Global, request: &ViewRequest, steps: &[Step]) -> Result<Vec<Step>, AllocError> {
-    let mut lanes = Vec::new(alloc);
-    if !request.columns {
-        return Ok(lanes);
-    }
-    for step in steps {
-        if !lanes.contains(step) {
-            lanes.push(*step)?;
-        }
-    }
-    lanes.sort_by_key(|step: &Step| (step.p, step.s))?;
-    Ok(lanes)
 }
 
 /// What a run is by, as its title says.
@@ -136,6 +118,33 @@ fn steps_of_end(alloc: Global, end: &RunEnd) -> Result<Vec<usize>, AllocError> {
     Ok(steps)
 }
 
+/// The lines of the steps that the words of an end or of findings name are never folded.
+fn keep_named(
+    alloc: Global,
+    shown: &mut Vec<ShownPart>,
+    end: &RunEnd,
+    found: &RunFindings,
+) -> Result<(), AllocError> {
+    let named = steps_named(alloc, end, found)?;
+    for part in shown.iter_mut() {
+        part.lines.keep(&named)?;
+    }
+    Ok(())
+}
+
+/// The steps, from 1, that the words of an end or of findings name.
+fn steps_named(alloc: Global, end: &RunEnd, found: &RunFindings) -> Result<Vec<usize>, AllocError> {
+    let mut named = steps_of_end(alloc, end)?;
+    named.extend_from_slice(&found.numbers_named(alloc)?)?;
+    Ok(named)
+}
+
+/// Adds a step as JSON.
+fn push_step_object(alloc: Global, out: &mut String, view: &StepView) -> Result<(), AllocError> {
+    let value = step_value(alloc, view)?;
+    push_object(alloc, out, &value)
+}
+
 /// A part of a run, and the lines of its steps that are shown.
 #[derive(Drop)]
 struct ShownPart {
@@ -144,17 +153,32 @@ struct ShownPart {
 }
 
 /// How a run is shown.
-#[derive(Drop)]
+#[derive(Clone, Copy)]
 struct Layout<'a, 't> {
     names: &'a ProgramNames<'t>,
     request: ViewRequest<'a>,
     only: Only,
     columns: Columns,
-    lanes: Vec<Step>,
+    lanes: &'a [Step],
     round: Option<EndRound>,
 }
 
 impl Layout<'_, '_> {
+    /// Adds a run on a machine with room for `S` streams a processor, and says how it ended.
+    fn push_run<const S: usize>(
+        &self,
+        alloc: Global,
+        out: &mut String,
+        program: &Program,
+        steps: &[Step],
+    ) -> Result<Status, AllocError> {
+        if self.request.shown.json {
+            self.push_objects::<S>(alloc, out, program, steps)
+        } else {
+            self.push_words::<S>(alloc, out, program, steps)
+        }
+    }
+
     /// Adds a run on a machine with room for `S` streams a processor as JSON, and says how it ended.
     fn push_objects<const S: usize>(
         &self,
@@ -164,25 +188,41 @@ impl Layout<'_, '_> {
         steps: &[Step],
     ) -> Result<Status, AllocError> {
         let mut machine = loaded::<S>(alloc, &program.image)?;
+        self.push_head_object(alloc, out, &program.text, &machine)?;
+        let views = run_views(alloc, &mut machine, steps)?;
+        self.push_step_objects(alloc, out, &views)?;
+        let end = end_of(alloc, &machine, &views)?;
+        push_end_object(alloc, out, &end, &machine, steps)?;
+        Ok(status_of_run(&end))
+    }
+
+    /// Adds the head of a run of a program with this text, whose machine has taken no step, as JSON.
+    fn push_head_object<const S: usize>(
+        &self,
+        alloc: Global,
+        out: &mut String,
+        text: &[u8],
+        machine: &Machine<'_, S>,
+    ) -> Result<(), AllocError> {
         let title = RunTitle {
             object: "run",
             program: self.request.program,
             schedule: schedule_name(self.request.run),
         };
-        let head = head_value(alloc, title, &program.text, self.names, &machine)?;
-        push_object(alloc, out, &head)?;
-        let views = run_views(alloc, &mut machine, steps)?;
-        self.push_step_objects(alloc, out, &views)?;
-        if let Some(round) = self.round {
-            push_object(alloc, out, &round_value(alloc, round)?)?;
-        }
-        let end = end_of(alloc, &machine, &views)?;
-        let value = end_value(alloc, &end, &machine, steps)?;
-        push_object(alloc, out, &value)?;
-        Ok(status_of_run(&end))
+        let head = head_value(alloc, title, text, self.names, machine)?;
+        push_object(alloc, out, &head)
     }
 
-    /// Adds the steps that are shown as JSON.
+    /// Adds the round as JSON, where one is marked.
+    fn push_round_object(&self, alloc: Global, out: &mut String) -> Result<(), AllocError> {
+        let Some(round) = self.round else {
+            return Ok(());
+        };
+        let value = round_value(alloc, round)?;
+        push_object(alloc, out, &value)
+    }
+
+    /// Adds the steps that are shown as JSON, and the round.
     fn push_step_objects(
         &self,
         alloc: Global,
@@ -192,11 +232,10 @@ impl Layout<'_, '_> {
         for (index, view) in views.iter().enumerate() {
             let number = index.saturating_add(1);
             if is_shown(&self.request, self.only, number, view) {
-                let value = step_value(alloc, view)?;
-                push_object(alloc, out, &value)?;
+                push_step_object(alloc, out, view)?;
             }
         }
-        Ok(())
+        self.push_round_object(alloc, out)
     }
 
     /// Adds a run on a machine with room for `S` streams a processor in words, and says how it ended.
@@ -209,23 +248,42 @@ impl Layout<'_, '_> {
     ) -> Result<Status, AllocError> {
         let mut machine = loaded::<S>(alloc, &program.image)?;
         let mut views = Vec::with_capacity(alloc, steps.len())?;
-        let mut shown = Vec::new(alloc);
-        for part in parts_of(self.round, steps.len()) {
-            shown.push(self.note_steps(&mut views, &mut machine, steps, part)?)?;
-        }
+        let mut shown = self.note_parts(&mut views, &mut machine, steps)?;
         let end = end_of(alloc, &machine, &views)?;
         let found = RunFindings::of::<S>(alloc, &program.image, steps)?;
-        let mut named = steps_of_end(alloc, &end)?;
-        named.extend_from_slice(&found.numbers_named(alloc)?)?;
-        for part in shown.iter_mut() {
-            part.lines.keep(&named)?;
-        }
+        keep_named(alloc, &mut shown, &end, &found)?;
         self.push_parts(out, &shown, steps.len())?;
-        let style = style_of(self.request.shown);
-        push_end(out, self.names, views.len(), &end)?;
-        push_differing_words(out, self.names, style, &machine)?;
-        found.push(out, self.names, style)?;
+        self.push_ending(out, &machine, views.len(), &end, &found)?;
         Ok(status_of_run(&end))
+    }
+
+    /// Takes the steps, adds what each did, and gives the lines of those that are shown, by parts of the run.
+    fn note_parts<const S: usize>(
+        &self,
+        views: &mut Vec<StepView>,
+        machine: &mut Machine<'_, S>,
+        steps: &[Step],
+    ) -> Result<Vec<ShownPart>, AllocError> {
+        let mut shown = Vec::new(*views.allocator());
+        for part in parts_of(self.round, steps.len()) {
+            shown.push(self.note_steps(views, machine, steps, part)?)?;
+        }
+        Ok(shown)
+    }
+
+    /// Adds how a run of so many steps ended in the world of this machine, and its findings.
+    fn push_ending<const S: usize>(
+        &self,
+        out: &mut String,
+        machine: &Machine<'_, S>,
+        steps: usize,
+        end: &RunEnd,
+        found: &RunFindings,
+    ) -> Result<(), AllocError> {
+        let style = style_of(self.request.shown);
+        push_end(out, self.names, steps, end)?;
+        push_differing_words(out, self.names, style, machine)?;
+        found.push(out, self.names, style)
     }
 
     /// Takes the steps of a part, adds what each did, and gives the lines of those that are shown.
@@ -243,14 +301,25 @@ impl Layout<'_, '_> {
                 break;
             };
             let view = take_step(alloc, machine, *step)?;
-            let number = index.saturating_add(1);
-            if is_shown(&self.request, self.only, number, &view) {
-                self.push_step(lines.next_text(), &view, machine)?;
-                lines.end_line(number)?;
-            }
+            self.note_line(&mut lines, index.saturating_add(1), &view, machine)?;
             views.push(view)?;
         }
         Ok(ShownPart { part, lines })
+    }
+
+    /// Adds the line of the step of this number, where it is shown.
+    fn note_line<const S: usize>(
+        &self,
+        lines: &mut StepLines,
+        number: usize,
+        view: &StepView,
+        machine: &Machine<'_, S>,
+    ) -> Result<(), AllocError> {
+        if is_shown(&self.request, self.only, number, view) {
+            self.push_step(lines.next_text(), view, machine)?;
+            lines.end_line(number)?;
+        }
+        Ok(())
     }
 
     /// Adds the line of a step after its number.
@@ -264,7 +333,7 @@ impl Layout<'_, '_> {
             names: self.names,
             style: style_of(self.request.shown),
         };
-        let (columns, lanes) = (self.columns, &self.lanes);
+        let (columns, lanes) = (self.columns, self.lanes);
         if lanes.is_empty() {
             push_step_text(out, notation, columns, view, machine)
         } else {
@@ -298,7 +367,7 @@ impl Layout<'_, '_> {
         if self.lanes.is_empty() {
             push_step_head(out, self.names, self.columns)
         } else {
-            push_lane_head(out, self.columns, &self.lanes)
+            push_lane_head(out, self.columns, self.lanes)
         }
     }
 

@@ -1,6 +1,6 @@
 //! What an instruction word says.
 
-use crate::status_words::status_told;
+use crate::status_words::status_description;
 use crate::word_fields::push_fields;
 use asm_line::Fault;
 use asm_text::assemble;
@@ -14,9 +14,9 @@ const FRAME: &str = "\n.profile 2\n.entry 0\n.data 0\n";
 /// What an instruction word says, by its hexadecimal digits or by its text: the other form, and its fields; and what a status
 /// word says, by `ssw` and its digits. None where the text is no instruction; then `source_of` is a program with it, whose
 /// faults say why.
-pub fn instruction_told(alloc: Global, text: &str) -> Result<Option<String>, AllocError> {
+pub fn instruction_description(alloc: Global, text: &str) -> Result<Option<String>, AllocError> {
     if let Some(digits) = text.strip_prefix("ssw ") {
-        return status_told(alloc, digits.trim());
+        return status_description(alloc, digits.trim());
     }
     let word = match number_of(text) {
         Some(word) => Some(word),

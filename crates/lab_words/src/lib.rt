@@ -11,4 +11,4 @@ mod trap_values;
 mod word_fields;
 
 pub use explaining::explained;
-pub use instruction_words::{instruction_told, source_of};
+pub use instruction_words::{instruction_description, source_of};

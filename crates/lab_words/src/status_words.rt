@@ -21,7 +21,10 @@ const IN_TRAP: u32 = 56;
 const KNOWN: u64 = 0x0107_FFFF_FFFF_FFFF;
 
 /// What the status word with these digits says; None if these are no hexadecimal digits of 64 bits.
-pub(crate) fn status_told(alloc: Global, digits: &str) -> Result<Option<String>, AllocError> {
+pub(crate) fn status_description(
+    alloc: Global,
+    digits: &str,
+) -> Result<Option<String>, AllocError> {
     let digits = digits.strip_prefix("0x").unwrap_or(digits);
     let Ok(value) = u64::from_str_radix(digits, 16) else {
         return Ok(None);

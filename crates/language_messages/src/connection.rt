@@ -58,7 +58,12 @@ impl Connection {
 
     /// Sends a notification.
     #[tactic(auto, using(crate::proofs::Sending::no_response, crate::proofs::Sending::nothing_sent))]
-    pub fn tell(&mut self, alloc: Global, method: &str, parameters: &Json) -> Result<(), AllocError>
+    pub fn notify(
+        &mut self,
+        alloc: Global,
+        method: &str,
+        parameters: &Json,
+    ) -> Result<(), AllocError>
         ensures none { SendsNoResponse self.old.outbox self.new.outbox }
     {
         let mut members = Json::new(alloc);

@@ -2,7 +2,7 @@
 
 use crate::documents::{Document, LinePlace};
 use crate::labels::places_at;
-use crate::numbers::number_told;
+use crate::numbers::number_description;
 use crate::operands::{OperandKind, operand_kind};
 use crate::ranges::put_range;
 use crate::symbols::address_of;
@@ -84,7 +84,7 @@ fn words_about(
 
 /// What is said of a number; nothing where the text is none.
 fn number_words(alloc: Global, text: &[u8]) -> Result<String, AllocError> {
-    match number_told(alloc, text)? {
+    match number_description(alloc, text)? {
         Some(words) => Ok(words),
         None => Ok(String::new(alloc)),
     }

@@ -102,7 +102,7 @@ impl LanguageServer {
             }
             Some(_) | None => None,
         };
-        tell_some(self.alloc, connection, told.as_ref())?;
+        report_some(self.alloc, connection, told.as_ref())?;
         Ok(LanguageFlow::On)
     }
 
@@ -117,7 +117,7 @@ impl LanguageServer {
                 let messages = document.checked(alloc)?;
                 let parameters = diagnostics_of(alloc, document, &messages)?;
                 document.messages = Some(messages);
-                connection.tell(alloc, PUBLISH, &parameters)
+                connection.notify(alloc, PUBLISH, &parameters)
             }
             None => Ok(()),
         }
@@ -223,7 +223,7 @@ impl LanguageServer {
 
 /// Sends diagnostics, where there are some.
 #[tactic(auto, using(language_messages::proofs::Sending::nothing_sent))]
-fn tell_some(
+fn report_some(
     alloc: Global,
     connection: &mut Connection,
     parameters: Option<&Json>,
@@ -231,7 +231,7 @@ fn tell_some(
     ensures none { SendsNoResponse connection.old.outbox connection.new.outbox }
 {
     match parameters {
-        Some(parameters) => connection.tell(alloc, PUBLISH, parameters),
+        Some(parameters) => connection.notify(alloc, PUBLISH, parameters),
         None => Ok(()),
     }
 }

@@ -10,7 +10,7 @@ mod timed;
 use anyhow::{Result, anyhow};
 use probed_calls::{
     Ended, image_of_program, make_engines, make_files, make_machines, make_records, make_runs,
-    make_sessions, make_texts, tell,
+    make_sessions, make_texts, print_lines,
 };
 use std::env;
 use std::sync::Wait;
@@ -32,7 +32,7 @@ fn main(rt: HostRuntime) -> Result<()> {
 /// Makes all calls, and prints a line for each.
 fn make_all<R: AllocGlobal + Clock + Print + Threads + Wait + Sync>(rt: &R) -> Result<()> {
     let Some(image) = image_of_program(rt.alloc()) else {
-        return Ok(tell(rt, &[("all calls", Ended::NotMade)])?);
+        return Ok(print_lines(rt, &[("all calls", Ended::NotMade)])?);
     };
     make_files(rt, &image)?;
     make_texts(rt, &image)?;

@@ -135,7 +135,7 @@ fn each_write_may_fail(rt: HostRuntime) {
     }
 }
 
-fn is_told_as(alloc: Global, fault: ToolFault, text: &str) -> bool {
+fn is_reported_as(alloc: Global, fault: ToolFault, text: &str) -> bool {
     fault
         .to_string(alloc)
         .is_ok_and(|told| told.as_str() == text)
@@ -152,6 +152,6 @@ fn faults_that_no_command_line_comes_to_have_texts(rt: HostRuntime) {
         (ToolFault::Gather(GatherFault::Short(6)), "gather fault 2"),
         (ToolFault::Gather(GatherFault::Torn(7)), "gather fault 3"),
     ] {
-        assert!(rt; is_told_as(rt.alloc(), fault, text), "{text}");
+        assert!(rt; is_reported_as(rt.alloc(), fault, text), "{text}");
     }
 }

@@ -25,9 +25,9 @@ const SECOND: [bool; 32] = [
 const ALL: [bool; 32] = [true; 32];
 
 /// What is shown: what r1 and r2 hold, and whether the newest code is negative.
-type Told = (u64, u64, bool);
+type Found = (u64, u64, bool);
 
-type Row = (&'static str, &'static [bool; 32], u8, Told);
+type Row = (&'static str, &'static [bool; 32], u8, Found);
 
 /// A source, which registers are named, how many steps are taken, and what is shown then. A register is shown until it
 /// is read last, and a named one at each place; a code until it is asked for last.
@@ -55,7 +55,7 @@ fn machine_after(alloc: Global, image: &Image, count: u8) -> Option<Machine<'_, 
     Some(machine)
 }
 
-fn told_of(live: &LiveRegisters, machine: &Machine<1>) -> Option<Told> {
+fn found_of(live: &LiveRegisters, machine: &Machine<1>) -> Option<Found> {
     let registers = live.registers_of(machine, 0, 0)?;
     let stream = machine.stream(0, 0)?;
     let is_negative = live.status_word(stream).codes.newest.negative;
@@ -63,17 +63,17 @@ fn told_of(live: &LiveRegisters, machine: &Machine<1>) -> Option<Told> {
 }
 
 /// What is shown after so many steps.
-fn told_after(alloc: Global, source: &str, names: &[bool; 32], count: u8) -> Option<Told> {
+fn found_after(alloc: Global, source: &str, names: &[bool; 32], count: u8) -> Option<Found> {
     let image = image_of(alloc, source)?;
     let live = LiveRegisters::of(alloc, &image, names).ok()?;
     let machine = machine_after(alloc, &image, count)?;
-    told_of(&live, &machine)
+    found_of(&live, &machine)
 }
 
 /// The first of the rows of which something else is shown.
-fn first_told_otherwise(alloc: Global, rows: &[Row]) -> Option<usize> {
-    for (number, (source, names, count, told)) in rows.iter().enumerate() {
-        if told_after(alloc, source, names, *count) != Some(*told) {
+fn first_found_otherwise(alloc: Global, rows: &[Row]) -> Option<usize> {
+    for (number, (source, names, count, found)) in rows.iter().enumerate() {
+        if found_after(alloc, source, names, *count) != Some(*found) {
             return Some(number);
         }
     }
@@ -82,5 +82,5 @@ fn first_told_otherwise(alloc: Global, rows: &[Row]) -> Option<usize> {
 
 #[test]
 fn what_is_needed_no_more_is_left_out(rt: HostRuntime) {
-    assert!(rt; first_told_otherwise(rt.alloc(), &ROWS).is_none());
+    assert!(rt; first_found_otherwise(rt.alloc(), &ROWS).is_none());
 }

@@ -64,7 +64,7 @@ fn running_at_start(alloc: Global) -> Option<Vec<Step>> {
 }
 
 #[test]
-fn a_wait_is_for_the_word_behind_the_forwarding_one(rt: HostRuntime) {
+fn a_wait_is_for_the_word_after_the_forwarding_one(rt: HostRuntime) {
     let full = Wait {
         address: 8,
         wanted: Wanted::Full,

@@ -7,7 +7,7 @@ use Rattle.text_parts.specs.Laws.{HexadecimalReadsBack}
 use Rattle.insn_word.specs.declared.profiles.Profile.{Profile}
 use Rattle.insn_word.specs.declared.profiles.Profile.TheVariants as profile
 use Rattle.asm_line.specs.Names.{directive_name, has_directive, profile_number}
-use Rattle.asm_line.specs.Profiles.{profile_told}
+use Rattle.asm_line.specs.Profiles.{profile_named}
 use Rattle.asm_line.specs.Operands.{Places}
 use Rattle.asm_line.specs.Directives.{profile_read, item_of_directive, entry_number, tags_number}
 use Rattle.asm_line.specs.declared.operation.Directive.{Directive}
@@ -49,7 +49,7 @@ profile-lines p named words =
     (λ places. rw (profile-read named))
 
 pub profile-tells : ProfileLinesTell
-unfolding profile_line profile_told
+unfolding profile_line profile_named
 profile-tells named =
     let ops = decimal (profile_number named) ∷ [] in
     let terms = and_from (is_term (decimal (profile_number named))) true

@@ -8,7 +8,7 @@ use Rattle.insn_word.specs.declared.profiles.Profile.TheVariants as profile
 use Rattle.insn_word.specs.declared.insn.Insn.{Insn}
 use Rattle.asm_line.specs.Operands.{Places}
 use Rattle.asm_line.specs.Lines.{line, line_item, is_word}
-use Rattle.asm_line.specs.Profiles.{profile_told}
+use Rattle.asm_line.specs.Profiles.{profile_named}
 use Rattle.asm_line.specs.declared.item.Item.{Item}
 use Rattle.asm_line.specs.declared.item.Item.TheVariants as item
 use Rattle.listing_line.specs.WordText.{word_line}
@@ -46,7 +46,7 @@ ProfileLinesReadBack =
 
 -- It says the profile of a text in which it is the first such line.
 abbrev pub ProfileLinesTell : Type 0
-ProfileLinesTell = (named : Profile) → profile_told (line (profile_line named)) ≡ Some named
+ProfileLinesTell = (named : Profile) → profile_named (line (profile_line named)) ≡ Some named
 
 abbrev pub SlimLinesReadBack : Type 0
 SlimLinesReadBack = (p : Profile) (slim words : ℕ) → 1 ≤ slim → slim ≤ 128

@@ -14,7 +14,7 @@ use std::alloc::AllocError;
 use text_parts::{add_decimal, add_five_digits, add_hexadecimal};
 
 /// Appends a program word as a line of a listing, with its line end: the instruction that the word spells in the
-/// profile, or `.word` where it spells none, and behind a semicolon the word's place in the program and the word itself ("Listing",
+/// profile, or `.word` where it spells none, and after a semicolon the word's place in the program and the word itself ("Listing",
 /// docs/FORMATS.md). It fails only where the text has no room for it and memory is refused; the text then stays as it
 /// was.
 #[tactic(auto, unfolding(crate::specs::WordText::word_line, crate::specs::WordText::place_comment))]

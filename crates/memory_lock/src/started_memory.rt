@@ -1,4 +1,4 @@
-//! A memory behind a lock that is known to go on from one start.
+//! A memory in a lock that is known to go on from one start.
 
 ghost use Rattle.std.specs.Prelude.{◌≡◌, ◌-◌, ◌++◌, ◌∷◌, [], IfOk, OnErr};
 ghost use Rattle.memory_lock.specs.Runs.{IsContinued};
@@ -8,7 +8,7 @@ use shared_history::{NoRoom, SharedMemory};
 use std::marker::{Brand, Model, PhantomData};
 use tag_memory::{Reply, Request};
 
-/// A type that names the memory that a run begins with. Of a value behind a lock no more is known than its type, so the
+/// A type that names the memory that a run begins with. Of a value in a lock no more is known than its type, so the
 /// type has to say what the memory goes on from.
 pub trait StartBrand {
     ghost use Rattle.shared_history.specs.SharedMemory.{SharedValue};
@@ -23,7 +23,7 @@ impl StartBrand for Brand {
     ghost start = { no_memory };
 }
 
-/// A memory that lies behind a lock.
+/// A memory that lies in a lock.
 pub trait LockedMemory {
     ghost use Rattle.shared_history.specs.SharedMemory.{SharedValue};
 

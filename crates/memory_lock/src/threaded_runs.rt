@@ -14,7 +14,7 @@ use std::alloc::Global;
 use std::sync::Wait;
 use std::thread::Threads;
 
-/// Why a run of threads hands out no schedule.
+/// Why a run of threads returns no schedule.
 #[derive(Drop)]
 pub enum ThreadsFault<'i, const S: usize> {
     /// There were no parts for the run.
@@ -23,7 +23,7 @@ pub enum ThreadsFault<'i, const S: usize> {
     Gather(Parts<'i, S>, GatherFault),
 }
 
-/// Runs the image's processors at once, each for `fuel` steps or until no stream of it runs, and hands out a schedule
+/// Runs the image's processors at once, each for `fuel` steps or until no stream of it runs, and returns a schedule
 /// that does the same: it holds each processor's steps in order, makes just the history that the memory kept, and
 /// ends in the processors' states and the memory's words. Two processors go through the turn memory, others through
 /// a lock.

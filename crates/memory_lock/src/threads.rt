@@ -18,10 +18,10 @@ use std::thread;
 use std::thread::Threads;
 
 /// Drives each processor up to the parts' fuel, as many at once as threads can be had; where a thread can't be started
-/// its processor is driven by another or by the caller. Each goes through a port of its own to the one memory behind a
+/// its processor is driven by another or by the caller. Each goes through a port of its own to the one memory in a
 /// lock, which no local step takes.
 ///
-/// Which processor asks first is not known, nor that the records match the history: `gather` tells.
+/// Which processor asks first is not known, nor that the records match the history: `gather` says so.
 pub fn run_by_lock<'i, R: Threads + Wait + Sync, G: Gate + Sync, const S: usize>(
     rt: &R,
     parts: Parts<'i, S>,
@@ -73,7 +73,7 @@ impl<'i, const S: usize> Worker for Recorded<'i, S> {
     }
 }
 
-/// Drives each worker through the memory behind a lock. The lock's type names the memory that it began with, which is
+/// Drives each worker through the memory in a lock. The lock's type names the memory that it began with, which is
 /// this one: the call of [`run_from`] picks it, in proofs/threads/run_workers/Invariants.antt.
 fn run_workers<'i, W: Worker + Send, R: Threads + Wait + Sync, G: Gate + Sync>(
     rt: &R,

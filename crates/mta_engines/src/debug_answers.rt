@@ -58,7 +58,7 @@ fn answer_line<const S: usize, W: Write>(
     }
 }
 
-/// Writes the line of a refused command, and flushes the writer. It takes no memory, so it can be told that memory was
+/// Writes the line of a refused command, and flushes the writer. It takes no memory, so it can say that memory was
 /// refused.
 #[tactic(auto, unfolding(crate::specs::DebugOutput::refusal_line))]
 fn write_refusal<W: Write>(writer: &mut W, fault: DebugFault) -> Result<(), ToolFault>

@@ -38,7 +38,7 @@ impl LineReader {
         &self.line.bytes
     }
 
-    /// Reads the next line, and says whether there is one: at the end of the reader, what stands behind the last line
+    /// Reads the next line, and says whether there is one: at the end of the reader, what stands after the last line
     /// feed is a line where it has bytes. `Read` where a read failed or was interrupted, `TooLarge` where the line does
     /// not end within the bytes that a reader may have.
     pub(crate) fn next<R: Read>(&mut self, reader: &mut R) -> Result<bool, ToolFault>

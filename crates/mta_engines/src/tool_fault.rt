@@ -22,7 +22,7 @@ pub enum ToolFault {
     /// A reader had more than [`INPUT_LIMIT`](crate::INPUT_LIMIT) bytes.
     #[error("input too large")]
     TooLarge,
-    /// Memory was refused, here or in a crate below, whose own fault for it is never told. It can come before any later
+    /// Memory was refused, here or in a crate below, whose own fault for it is never shown. It can come before any later
     /// fault of an input would be found.
     #[error("no memory")]
     NoMemory,

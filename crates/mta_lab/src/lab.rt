@@ -1,13 +1,15 @@
 //! The program, from its command line to its status.
 
+use crate::joined_parts::JoinedParts;
 use crate::painting::Painting;
 use command_parts::{CommandAnswer, Inputs, LabFault, Status, written};
 use lab_adapter::adapt;
 use lab_checks::{assemble_file, check, explain, lay_out, make_schedule, show_word, start_program};
 use lab_command_line::read_lab_command;
 use lab_debugger::{Screen, debug};
-use lab_exercises::{exercise, watch_exercise, write_gallery};
+use lab_exercises::{exercise, watch_exercise};
 use lab_explorer::show_every_end;
+use lab_gallery::write_gallery;
 use lab_grades::{grade, merge};
 use lab_language::serve_language;
 use lab_pages::{write_page, write_picture, write_play_page};
@@ -70,35 +72,35 @@ pub(crate) fn run_lab<
     outputs: &mut Outputs<'_, W, E>,
 ) -> u8 {
     if let Some(name) = inputs.names().shown_twice(words) {
-        tell_twofold(alloc, name, outputs.errors);
+        report_twofold(alloc, name, outputs.errors);
         return Status::NoCommand.number();
     }
     match read_lab_command(alloc, words, inputs.names()) {
         Ok(call) => {
             let painting = Painting::of(&call, outputs.terminals);
             let ended = run_command(rt, alloc, &call.command, inputs, outputs, painting);
-            status_told(ended, outputs.errors, painting)
+            number_of_status(ended, outputs.errors, painting)
         }
         Err(error) if error.use_stderr() => {
             let painting = Painting::by(Colours::Auto, outputs.terminals);
-            tell_refused(alloc, &error, outputs.errors, painting);
+            report_refused(alloc, &error, outputs.errors, painting);
             Status::NoCommand.number()
         }
         Err(help) => {
             let output = &mut *outputs.output;
             let wrote = write!(output, "{help}").and_then(|()| output.flush());
             let ended = written(wrote).map(|()| Status::Done);
-            status_told(ended, outputs.errors, Painting::NONE)
+            number_of_status(ended, outputs.errors, Painting::NONE)
         }
     }
 }
 
 /// Writes that two words of the command line, which are not the same, are both shown so.
-fn tell_twofold<E: Write>(alloc: Global, name: &str, errors: &mut E) {
+fn report_twofold<E: Write>(alloc: Global, name: &str, errors: &mut E) {
     match format!(in alloc;
         "{name}: two words of this line are shown so; rename one of the files"
     ) {
-        Ok(words) => tell_words(&words, errors, false),
+        Ok(words) => report_words(&words, errors, false),
         Err(_) => {
             let _ = writeln!(errors, "mta_lab: no memory");
         }
@@ -106,7 +108,7 @@ fn tell_twofold<E: Write>(alloc: Global, name: &str, errors: &mut E) {
 }
 
 /// Writes why a command line is refused.
-fn tell_refused<D: Display, E: Write>(
+fn report_refused<D: Display, E: Write>(
     alloc: Global,
     error: &D,
     errors: &mut E,
@@ -134,14 +136,14 @@ fn plain_lines<D: Display>(alloc: Global, message: &D) -> Result<String, AllocEr
 }
 
 /// The number of a command's status; why it gave up, where it did, is written first.
-fn status_told<E: Write>(
+fn number_of_status<E: Write>(
     ended: Result<Status, LabFault>,
     errors: &mut E,
     painting: Painting,
 ) -> u8 {
     match ended {
         Ok(status) => status.number(),
-        Err(fault) => tell_fault(&fault, errors, painting.errors),
+        Err(fault) => report_fault(&fault, errors, painting.errors),
     }
 }
 
@@ -215,7 +217,16 @@ fn watch<X: Threads + Wait + Sync + Clock, F: Files, R: Read + Send, W: Write, E
         output: &mut *outputs.output,
         is_coloured: painting.output,
     };
-    watch_exercise(rt, alloc, inputs, request, &mut printer, &mut console)
+    let pages = JoinedParts;
+    watch_exercise(
+        rt,
+        alloc,
+        inputs,
+        request,
+        &mut printer,
+        &pages,
+        &mut console,
+    )
 }
 
 /// Runs a command that answers when it is done.
@@ -238,7 +249,7 @@ fn answer_whole<X: Threads + Wait + Sync + Clock, F: Files, R: Read, W: Write, E
         is_coloured: painting.output,
     };
     let answer = answer_to(rt, alloc, command, inputs, &mut printer, &mut console)?;
-    tell(answer, outputs, painting)
+    print_answer(answer, outputs, painting)
 }
 
 /// What a command answers.
@@ -273,11 +284,25 @@ fn answer_to<X: Threads + Wait + Sync + Clock, F: Files, R: Read, W: Write, E: W
         LabCommand::Explore(request) => show_every_end(alloc, inputs, request, console),
         LabCommand::Grade(request) => grade(rt, alloc, inputs, request, printer, console),
         LabCommand::Merge(request) => merge(alloc, inputs, request, printer),
-        LabCommand::Exercise(request) => exercise(rt, alloc, inputs, request, console),
+        LabCommand::Exercise(request) => exercise(
+            rt,
+            alloc,
+            inputs,
+            request,
+            &JoinedParts,
+            console,
+        ),
         LabCommand::Page(request) => write_page(alloc, inputs, request),
         LabCommand::Picture(request) => write_picture(alloc, inputs, request),
         LabCommand::Play(request) => write_play_page(alloc, inputs, request, console),
-        LabCommand::Gallery(request) => write_gallery(rt, alloc, inputs, request, console),
+        LabCommand::Gallery(request) => write_gallery(
+            rt,
+            alloc,
+            inputs,
+            request,
+            &JoinedParts,
+            console,
+        ),
         LabCommand::Explain { words } => explain(alloc, words),
         LabCommand::Word { words } => show_word(alloc, words),
         LabCommand::LayOut(request) => lay_out(alloc, inputs, request),
@@ -287,7 +312,7 @@ fn answer_to<X: Threads + Wait + Sync + Clock, F: Files, R: Read, W: Write, E: W
 }
 
 /// Writes an answer, and gives its status; or its fault, where a part of it was not done.
-fn tell<W: Write, E: Write>(
+fn print_answer<W: Write, E: Write>(
     answer: CommandAnswer,
     outputs: &mut Outputs<'_, W, E>,
     painting: Painting,
@@ -310,9 +335,9 @@ fn tell<W: Write, E: Write>(
 }
 
 /// Writes why a command gave up, and gives its status.
-fn tell_fault<E: Write>(fault: &LabFault, errors: &mut E, is_coloured: bool) -> u8 {
+fn report_fault<E: Write>(fault: &LabFault, errors: &mut E, is_coloured: bool) -> u8 {
     match fault {
-        LabFault::Words(words) => tell_words(words, errors, is_coloured),
+        LabFault::Words(words) => report_words(words, errors, is_coloured),
         LabFault::Lines(lines) => {
             let _ = write_lines(errors, lines, is_coloured);
         }
@@ -328,7 +353,7 @@ fn tell_fault<E: Write>(fault: &LabFault, errors: &mut E, is_coloured: bool) -> 
 }
 
 /// Writes a reason in words, which may have names of files, on a line of its own.
-fn tell_words<E: Write>(words: &String, errors: &mut E, is_coloured: bool) {
+fn report_words<E: Write>(words: &String, errors: &mut E, is_coloured: bool) {
     match fault_line(*words.allocator(), words.as_str()) {
         Ok(line) => {
             let _ = write_lines(errors, &line, is_coloured);

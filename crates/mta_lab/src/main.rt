@@ -1,6 +1,7 @@
 //! The program for people: words for faults, schedules, views, grades (docs/LAB.md).
 #![tactic(auto)]
 
+mod joined_parts;
 mod lab;
 mod painting;
 

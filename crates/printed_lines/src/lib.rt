@@ -3,4 +3,5 @@
 
 mod printing;
 
+pub use command_parts as parts;
 pub use printing::{Printer, write_lines};

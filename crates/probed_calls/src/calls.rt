@@ -10,7 +10,7 @@ use std::io;
 type Line = (&'static str, Ended);
 
 /// Prints such lines.
-pub fn tell<R: Print>(rt: &R, lines: &[Line]) -> io::Result<()> {
+pub fn print_lines<R: Print>(rt: &R, lines: &[Line]) -> io::Result<()> {
     for (name, ended) in lines {
         println!(rt; "{name}: {}", ended.text())?;
     }
@@ -30,7 +30,7 @@ pub fn make_files<R: AllocGlobal + Print>(rt: &R, image: &Image) -> io::Result<(
         ("write_schedule", written::of_write_schedule(alloc)),
         ("round_schedule", written::of_round_schedule(alloc)),
     ];
-    tell(rt, &lines)
+    print_lines(rt, &lines)
 }
 
 /// Makes those that make texts, and those that keep labels and words.
@@ -53,7 +53,7 @@ pub fn make_texts<R: AllocGlobal + Print>(rt: &R, image: &Image) -> io::Result<(
         ("stream_text", texts::of_stream_text(alloc, image)),
         ("world_text", texts::of_world_text(alloc, image)),
     ];
-    tell(rt, &lines)
+    print_lines(rt, &lines)
 }
 
 /// Makes those that make memories, processors and machines.
@@ -77,7 +77,7 @@ pub fn make_machines<R: AllocGlobal + Print>(rt: &R, image: &Image) -> io::Resul
             machines::of_machine_clone(alloc, image),
         ),
     ];
-    tell(rt, &lines)
+    print_lines(rt, &lines)
 }
 
 /// Makes those that make records, and what they are gathered with.
@@ -97,5 +97,5 @@ pub fn make_records<R: AllocGlobal + Print>(rt: &R, image: &Image) -> io::Result
         ("SharedMemory::new", records::of_shared_memory(alloc, image)),
         ("Parts::new", records::of_parts(alloc, image)),
     ];
-    tell(rt, &lines)
+    print_lines(rt, &lines)
 }

@@ -12,7 +12,7 @@ mod runs;
 mod texts;
 mod written;
 
-pub use calls::{make_files, make_machines, make_records, make_texts, tell};
+pub use calls::{make_files, make_machines, make_records, make_texts, print_lines};
 pub use endings::Ended;
 pub use programs::image_of_program;
 pub use runs::{make_engines, make_runs, make_sessions};

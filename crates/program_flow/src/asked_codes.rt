@@ -96,13 +96,13 @@ fn asks(insn: &Insn, code: usize) -> bool {
 /// one, and the oldest is lost.
 fn is_asked_next(insn: &Insn, place: u32, table: &[CodeRow], code: usize) -> bool {
     if !makes_code(insn) {
-        return is_asked_behind(insn, place, table, code);
+        return is_asked_after(insn, place, table, code);
     }
-    code < 3 && is_asked_behind(insn, place, table, code + 1)
+    code < 3 && is_asked_after(insn, place, table, code + 1)
 }
 
 /// Whether a code is asked for at a place where an instruction goes on, as it stands there.
-fn is_asked_behind(insn: &Insn, place: u32, table: &[CodeRow], code: usize) -> bool {
+fn is_asked_after(insn: &Insn, place: u32, table: &[CodeRow], code: usize) -> bool {
     let next = is_live(codes_at(table, place.wrapping_add(1)), code);
     match insn {
         Insn::Wide { .. } => next,

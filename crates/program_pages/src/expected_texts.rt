@@ -11,13 +11,18 @@ pub(crate) fn expected_texts(
     required: &Requirements,
 ) -> Result<Vec<String>, AllocError> {
     let mut texts = Vec::new(alloc);
-    push_words(alloc, &mut texts, required.end_lines())?;
-    push_words(alloc, &mut texts, required.claim_lines())?;
-    if required.never_busy().is_some() {
-        texts.push(String::from_str(alloc, NEVER_BUSY)?)?;
-    }
-    push_words(alloc, &mut texts, required.rule_lines())?;
+    push_expected(&mut texts, required)?;
     Ok(texts)
+}
+
+/// Adds what is expected of ends, and what is claimed.
+fn push_expected(texts: &mut Vec<String>, required: &Requirements) -> Result<(), AllocError> {
+    push_words(texts, required.end_lines())?;
+    push_words(texts, required.claim_lines())?;
+    if required.never_busy().is_some() {
+        push_text(texts, NEVER_BUSY)?;
+    }
+    push_words(texts, required.rule_lines())
 }
 
 /// The lines about who does the work, as they are written, each once, and the one that no stream can wait forever: the page
@@ -26,27 +31,36 @@ pub(crate) fn unjudged_texts(
     alloc: Global,
     required: &Requirements,
 ) -> Result<Vec<String>, AllocError> {
-    let lines = required.work_lines();
     let mut texts = Vec::new(alloc);
-    for (place, line) in lines.iter().enumerate() {
-        if is_another_line(lines, place) {
-            texts.push(String::from_str(alloc, &line.words)?)?;
-        }
-    }
-    if required.never_starved().is_some() {
-        texts.push(String::from_str(alloc, NEVER_STARVED)?)?;
-    }
+    push_unjudged(&mut texts, required)?;
     Ok(texts)
 }
 
-/// Adds the words of lines.
-fn push_words(
-    alloc: Global,
-    texts: &mut Vec<String>,
-    lines: &[WrittenLine],
-) -> Result<(), AllocError> {
-    for line in lines {
-        texts.push(String::from_str(alloc, &line.words)?)?;
+/// Adds the lines that the page does not judge.
+fn push_unjudged(texts: &mut Vec<String>, required: &Requirements) -> Result<(), AllocError> {
+    let lines = required.work_lines();
+    for (place, line) in lines.iter().enumerate() {
+        if is_another_line(lines, place) {
+            push_text(texts, &line.words)?;
+        }
     }
+    if required.never_starved().is_some() {
+        push_text(texts, NEVER_STARVED)?;
+    }
+    Ok(())
+}
+
+/// Adds the words of lines.
+fn push_words(texts: &mut Vec<String>, lines: &[WrittenLine]) -> Result<(), AllocError> {
+    for line in lines {
+        push_text(texts, &line.words)?;
+    }
+    Ok(())
+}
+
+/// Adds a text.
+fn push_text(texts: &mut Vec<String>, words: &str) -> Result<(), AllocError> {
+    let text = String::from_str(*texts.allocator(), words)?;
+    texts.push(text)?;
     Ok(())
 }

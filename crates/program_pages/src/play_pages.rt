@@ -9,9 +9,9 @@ use schedule_page::ends_of_space::SpaceEnd;
 use schedule_page::goals::{EndCriteria, EndGoal};
 use schedule_page::{GraphNames, PageEnds, graph_json, page_of_graph};
 use search_texts::ends_in_words::words_of_ends;
-use search_texts::parts::LabFault;
+use search_texts::parts::{LabFault, Program};
 use search_texts::search_fault;
-use search_texts::searches::{Console, Explored, SearchBound, explore_program};
+use search_texts::searches::{Console, Explored, ProgramSearch, SearchBound, explore_program};
 use std::alloc::{AllocError, Global};
 use std::io::Write;
 use std::time::Clock;
@@ -51,17 +51,43 @@ pub fn page_of_schedules<C: Clock, E: Write>(
     console: &mut Console<'_, C, E>,
 ) -> Result<PlayPage, LabFault> {
     let asked = choices.search(played.required);
-    let mut found = match explore_program(alloc, &played.program.image, &asked, console) {
-        Ok(found) => found,
-        Err(fault) => return Err(search_fault(alloc, fault)?),
-    };
-    if !found.is_complete {
-        return not_complete(found.bound);
+    let mut found = every_state(alloc, played.program, &asked, console)?;
+    if found.is_complete {
+        let criteria = criteria_of(played, &found);
+        keep_placed(&mut found.ends);
+        page_of_search(alloc, played, choices.goal, criteria, &found)
+    } else {
+        not_complete(found.bound)
     }
-    let criteria = criteria_of(played, &found);
-    // (a claim that only the given beginning breaks has no state on the page)
-    found.ends.retain(|end| !end.places.is_empty());
-    let goal = match choices.goal {
+}
+
+/// What is found of all schedules of a program. It has no clause, so what the search promises burdens no proof above it.
+fn every_state<'i, C: Clock, E: Write>(
+    alloc: Global,
+    program: &'i Program,
+    asked: &ProgramSearch<'_>,
+    console: &mut Console<'_, C, E>,
+) -> Result<Explored<'i>, LabFault> {
+    match explore_program(alloc, &program.image, asked, console) {
+        Ok(found) => Ok(found),
+        Err(fault) => Err(search_fault(alloc, fault)?),
+    }
+}
+
+/// Keeps the ends that have a state on the page: a claim that only the given beginning breaks has none.
+fn keep_placed(ends: &mut Vec<SpaceEnd>) {
+    ends.retain(|end| !end.places.is_empty());
+}
+
+/// The page of all states of a program, on which the reader is first to reach the end that is asked.
+fn page_of_search(
+    alloc: Global,
+    played: &PlayedProgram<'_, '_>,
+    asked: Option<EndGoal>,
+    criteria: EndCriteria,
+    found: &Explored<'_>,
+) -> Result<PlayPage, LabFault> {
+    let goal = match asked {
         Some(goal) => match goal.place(&found.ends, criteria) {
             Some(place) => Some(place),
             None => return Ok(PlayPage::NoSuchEnd),
@@ -69,7 +95,7 @@ pub fn page_of_schedules<C: Clock, E: Write>(
         None => None,
     };
     let judged = JudgedSearch {
-        found: &found,
+        found,
         criteria,
         goal,
     };

@@ -65,7 +65,7 @@ impl<'i, const S: usize> Replay<'i, S> {
         }
     }
 
-    /// Takes the next step, and says whether the position behind it is a stop.
+    /// Takes the next step, and says whether the position after it is a stop.
     #[inline(always)]
     fn advance(&mut self, schedule: &[Step], stops: &mut StopFinder) -> bool
         requires within { self.old.position < length schedule.now }

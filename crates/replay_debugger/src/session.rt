@@ -94,7 +94,7 @@ impl<'i, const S: usize> Session<'i, S> {
     }
 
     /// Does a command, and answers it from the world at the position that it leads to. A refusal leaves the session
-    /// as it was. How a position is reached is nowhere told.
+    /// as it was. How a position is reached is nowhere said.
     pub fn command(&mut self, command: &Command) -> Result<Answer, DebugFault>
         ensures { IsResultOf self.old command.now result self.new }
     {

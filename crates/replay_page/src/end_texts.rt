@@ -5,7 +5,7 @@ use crate::pages::{push_cut, push_escaped};
 use crate::runs::RunNames;
 use crate::whole_run::WholeRun;
 use lab_json::texts::{
-    FindingsOfRun, NumberStyle, ProgramNames, Telling, push_end, push_first_finding,
+    FindingTexts, FindingsOfRun, NumberStyle, ProgramNames, push_end, push_first_finding,
 };
 use std::alloc::{AllocError, Global};
 
@@ -20,7 +20,7 @@ pub(crate) fn end_texts(
     found: &FindingsOfRun,
 ) -> Result<String, AllocError> {
     let mut words = String::new(alloc);
-    let telling = Telling {
+    let texts = FindingTexts {
         names: places,
         style: NumberStyle::Decimal,
         actions: &run.actions,
@@ -30,7 +30,7 @@ pub(crate) fn end_texts(
     words.pop();
     if found.count() > 0 {
         words.push_str("; ")?;
-        push_first_finding(&mut words, &telling, found, &[])?;
+        push_first_finding(&mut words, &texts, found, &[])?;
     }
     Ok(words)
 }

@@ -52,7 +52,7 @@ fn push_lists(
         json.push_str(if index == 0 { "[" } else { ",[" })?;
         match one {
             Written::At(location) => push_list(alloc, json, *location, actions, starts, step)?,
-            Written::AllOf(stream) => push_stream(alloc, json, *stream)?,
+            Written::AllOf(stream) => push_stream(json, *stream)?,
         }
         json.push_str("]")?;
     }
@@ -73,54 +73,64 @@ fn push_list(
     requires starts { AreStarts actions.now starts.now }
 {
     let own = actions[step].stream;
-    push_location(alloc, json, own, location)?;
+    push_location(json, own, location)?;
     let sources = sources_of(alloc, actions, starts, location, step)?;
     for source in &sources {
-        json.push_str(",")?;
-        push_location(alloc, json, own, source.location)?;
-        let number = match source.step {
-            Some(before) => before.saturating_add(1),
-            None => 0,
-        };
-        json.push_str(&format!(in alloc; ",{number}")?)?;
+        push_source(json, own, source.location, source.step)?;
     }
     Ok(())
 }
 
-/// Adds the name of a location, without that of the step's own stream.
-fn push_location(
-    alloc: Global,
+/// Adds a location that was read, and the number of the step that wrote it last before.
+fn push_source(
     json: &mut String,
     own: Step,
     location: Location,
+    step: Option<usize>,
 ) -> Result<(), AllocError> {
-    let name = match location {
-        Location::Register { stream, register } => { part_name(alloc, own, stream, 'r', register)? }
-        Location::Target { stream, target } => part_name(alloc, own, stream, 't', target)?,
-        Location::Word { address } => format!(in alloc; "\"[{address}]\"")?,
+    json.push_str(",")?;
+    push_location(json, own, location)?;
+    let number = match step {
+        Some(before) => before.saturating_add(1),
+        None => 0,
     };
-    json.push_str(&name)
+    write!(json, ",{number}")
 }
 
-/// The name of a register of a stream.
-fn part_name(
-    alloc: Global,
+/// Adds the name of a location, without that of the step's own stream.
+fn push_location(json: &mut String, own: Step, location: Location) -> Result<(), AllocError> {
+    match location {
+        Location::Register { stream, register } => push_part(json, own, stream, "r", register),
+        Location::Target { stream, target } => push_part(json, own, stream, "t", target),
+        Location::Word { address } => write!(json, "\"[{address}]\""),
+    }
+}
+
+/// Adds the name of a register of a stream.
+fn push_part(
+    json: &mut String,
     own: Step,
     stream: Step,
-    kind: char,
+    kind: &str,
     number: u8,
-) -> Result<String, AllocError> {
-    if stream == own {
-        return format!(in alloc; "\"{kind}{number}\"");
+) -> Result<(), AllocError> {
+    json.push_str("\"")?;
+    if stream != own {
+        push_stream_name(json, stream)?;
+        json.push_str(".")?;
     }
-    let p = stream.p;
-    let s = stream.s;
-    format!(in alloc; "\"{p}.{s}.{kind}{number}\"")
+    write!(json, "{kind}{number}\"")
 }
 
 /// Adds the name of a stream.
-fn push_stream(alloc: Global, json: &mut String, stream: Step) -> Result<(), AllocError> {
-    let p = stream.p;
-    let s = stream.s;
-    json.push_str(&format!(in alloc; "\"{p}.{s}\"")?)
+fn push_stream_name(json: &mut String, stream: Step) -> Result<(), AllocError> {
+    let Step { p, s } = stream;
+    write!(json, "{p}.{s}")
+}
+
+/// Adds the name of a stream as JSON.
+fn push_stream(json: &mut String, stream: Step) -> Result<(), AllocError> {
+    json.push_str("\"")?;
+    push_stream_name(json, stream)?;
+    json.push_str("\"")
 }

@@ -83,26 +83,7 @@ pub(crate) fn push_tail(page: &mut String) -> Result<(), AllocError> {
     page.push_str(elements_script::TEXT)?;
     page.push_str(run_script::TEXT)?;
     page.push_str(one_script::TEXT)?;
-    page.push_str(values_script::TEXT)?;
-    page.push_str(program_script::TEXT)?;
-    page.push_str(sentences_script::TEXT)?;
-    page.push_str(world_script::TEXT)?;
-    page.push_str(columns_script::TEXT)?;
-    page.push_str(lanes_script::TEXT)?;
-    page.push_str(round_script::TEXT)?;
-    page.push_str(picture_script::TEXT)?;
-    page.push_str(picture_words_script::TEXT)?;
-    page.push_str(telling_script::TEXT)?;
-    page.push_str(why_script::TEXT)?;
-    page.push_str(panels_script::TEXT)?;
-    page.push_str(source_script::TEXT)?;
-    page.push_str(end_script::TEXT)?;
-    page.push_str(circle_script::TEXT)?;
-    page.push_str(tables_script::TEXT)?;
-    page.push_str(chart_script::TEXT)?;
-    page.push_str(papers_script::TEXT)?;
-    page.push_str(deciding_script::TEXT)?;
-    page.push_str(page_script::TEXT)?;
+    push_common_scripts(page)?;
     page.push_str(start_script::TEXT)?;
     page.push_str(template_5::TEXT)
 }
@@ -127,6 +108,14 @@ pub(crate) fn push_pair_tail(page: &mut String) -> Result<(), AllocError> {
     page.push_str(elements_script::TEXT)?;
     page.push_str(run_script::TEXT)?;
     page.push_str(two_script::TEXT)?;
+    push_common_scripts(page)?;
+    page.push_str(both_script::TEXT)?;
+    page.push_str(two_start_script::TEXT)?;
+    page.push_str(template_5::TEXT)
+}
+
+/// Adds the scripts that both pages have after their own.
+fn push_common_scripts(page: &mut String) -> Result<(), AllocError> {
     page.push_str(values_script::TEXT)?;
     page.push_str(program_script::TEXT)?;
     page.push_str(sentences_script::TEXT)?;
@@ -146,8 +135,5 @@ pub(crate) fn push_pair_tail(page: &mut String) -> Result<(), AllocError> {
     page.push_str(chart_script::TEXT)?;
     page.push_str(papers_script::TEXT)?;
     page.push_str(deciding_script::TEXT)?;
-    page.push_str(page_script::TEXT)?;
-    page.push_str(both_script::TEXT)?;
-    page.push_str(two_start_script::TEXT)?;
-    page.push_str(template_5::TEXT)
+    page.push_str(page_script::TEXT)
 }

@@ -11,7 +11,9 @@ use crate::words_drawn::push_words;
 use lab_json::texts::{FindingsOfRun, ProgramNames};
 use machine::Machine;
 use processor::Step;
+use run_findings::LostUpdate;
 use std::alloc::{AllocError, Global};
+use tag_memory::Word;
 
 /// The picture of a run of the program with this text, whose machine has taken no step, without so many steps at its
 /// beginning.
@@ -23,23 +25,78 @@ pub fn picture_of<const S: usize>(
     schedule: &[Step],
     before: usize,
 ) -> Result<String, AllocError> {
-    let places = ProgramNames::of(alloc, text)?;
     let run = WholeRun::of(alloc, start, schedule)?;
-    let found = FindingsOfRun::of(alloc, &run.actions)?;
-    let lanes = Lanes::of(alloc, &run, before)?;
-    let ended = end_texts(alloc, &places, &run, &found)?;
+    whole_picture(alloc, names, text, &run, start.image().cells(), before)
+}
+
+/// The picture of a whole run, whose memory has these words at the start.
+fn whole_picture(
+    alloc: Global,
+    names: RunNames,
+    text: &[u8],
+    run: &WholeRun,
+    cells: &[Word],
+    before: usize,
+) -> Result<String, AllocError> {
+    let places = ProgramNames::of(alloc, text)?;
+    let lanes = Lanes::of(alloc, run, before)?;
+    let drawn = DrawnRun {
+        names,
+        places: &places,
+        run,
+        lanes: &lanes,
+        cells,
+    };
     let mut out = String::new(alloc);
-    push_frame(&mut out, &lanes)?;
-    push_title(&mut out, names, &ended)?;
-    push_paper(&mut out, &lanes)?;
-    push_numbers(&mut out, &lanes)?;
-    let cells = start.image().cells();
-    push_words(&mut out, &lanes, &run, &found.lost, &places, cells)?;
-    push_streams(&mut out, &lanes, &run, &places)?;
-    push_legend(&mut out, lanes.legend_y())?;
-    push_caption(&mut out, &lanes, names, &ended)?;
-    out.push_str("</svg>\n")?;
+    drawn.push_all(alloc, &mut out)?;
     Ok(out)
+}
+
+/// A run, and where its picture shows what.
+#[derive(Clone, Copy)]
+struct DrawnRun<'a, 't> {
+    /// What it is called.
+    names: RunNames<'a>,
+    /// The names of the program's places.
+    places: &'a ProgramNames<'t>,
+    /// The run.
+    run: &'a WholeRun,
+    /// Where the lanes lie.
+    lanes: &'a Lanes,
+    /// The words of the memory at the start.
+    cells: &'a [Word],
+}
+
+impl DrawnRun<'_, '_> {
+    /// Adds the whole picture.
+    fn push_all(&self, alloc: Global, out: &mut String) -> Result<(), AllocError> {
+        let found = FindingsOfRun::of(alloc, &self.run.actions)?;
+        let ended = end_texts(alloc, self.places, self.run, &found)?;
+        self.push_sheet(out, &ended)?;
+        self.push_lanes(out, &found.lost)?;
+        self.push_foot(out, &ended)
+    }
+
+    /// Adds what stands before the lanes.
+    fn push_sheet(&self, out: &mut String, ended: &str) -> Result<(), AllocError> {
+        push_frame(out, self.lanes)?;
+        push_title(out, self.names, ended)?;
+        push_paper(out, self.lanes)?;
+        push_numbers(out, self.lanes)
+    }
+
+    /// Adds the lanes of the words and of the streams.
+    fn push_lanes(&self, out: &mut String, lost: &[LostUpdate]) -> Result<(), AllocError> {
+        push_words(out, self.lanes, self.run, lost, self.places, self.cells)?;
+        push_streams(out, self.lanes, self.run, self.places)
+    }
+
+    /// Adds what stands below the lanes.
+    fn push_foot(&self, out: &mut String, ended: &str) -> Result<(), AllocError> {
+        push_legend(out, self.lanes.legend_y())?;
+        push_caption(out, self.lanes, self.names, ended)?;
+        out.push_str("</svg>\n")
+    }
 }
 
 /// Adds the beginning, with the picture's size.

@@ -6,13 +6,14 @@ use crate::run_verdicts::RunVerdict;
 use crate::waits::RunWait;
 use crate::whole_run::WholeRun;
 use image_file::Image;
-use lab_json::texts::{ProgramNames, wanted_word};
+use lab_json::texts::{ProgramNames, RunEnd, wanted_word};
 use lab_json::{
     List, Object, RunTitle, difference_value, end_part, findings_value, head_value, step_part,
     stream_value,
 };
 use machine::{LoadFault, Machine};
 use processor::Step;
+use run_findings::Action;
 use serde_json::Value;
 use std::alloc::{AllocError, Global};
 use step_views::StepView;
@@ -99,21 +100,54 @@ pub(crate) fn pair_json<const S: usize>(
     one: &[Step],
     other: &[Step],
 ) -> Result<String, AllocError> {
+    let mut json = open_pair(alloc, names, text, start)?;
+    push_pair(alloc, &mut json, names, start, one, other)?;
+    Ok(json)
+}
+
+/// The head of two runs, as an object that is not closed.
+fn open_pair<const S: usize>(
+    alloc: Global,
+    names: PairNames,
+    text: &[u8],
+    start: &Machine<'_, S>,
+) -> Result<String, AllocError> {
     let schedules = both_names(alloc, names)?;
     let title = RunTitle {
         object: "pair",
         program: names.program,
         schedule: &schedules,
     };
-    let mut json = open_head(alloc, title, text, start)?;
-    let difference = pair_difference::<S>(alloc, start.image(), one, other)?;
-    push_member(alloc, &mut json, "difference", &difference)?;
+    open_head(alloc, title, text, start)
+}
+
+/// Adds in what two runs differ, and both, and ends the object.
+fn push_pair<const S: usize>(
+    alloc: Global,
+    json: &mut String,
+    names: PairNames,
+    start: &Machine<'_, S>,
+    one: &[Step],
+    other: &[Step],
+) -> Result<(), AllocError> {
+    push_difference::<S>(alloc, json, start.image(), one, other)?;
     json.push_str(",\n\"runs\":[")?;
-    push_named_run(alloc, &mut json, names.one, start, one)?;
+    push_named_run(alloc, json, names.one, start, one)?;
     json.push_str(",\n")?;
-    push_named_run(alloc, &mut json, names.other, start, other)?;
-    json.push_str("]}\n")?;
-    Ok(json)
+    push_named_run(alloc, json, names.other, start, other)?;
+    json.push_str("]}\n")
+}
+
+/// Adds the first position at which two runs differ, and in what.
+fn push_difference<const S: usize>(
+    alloc: Global,
+    json: &mut String,
+    image: &Image,
+    one: &[Step],
+    other: &[Step],
+) -> Result<(), AllocError> {
+    let difference = pair_difference::<S>(alloc, image, one, other)?;
+    push_member(alloc, json, "difference", &difference)
 }
 
 /// The names of the schedules of two runs.
@@ -131,13 +165,27 @@ fn open_head<const S: usize>(
     text: &[u8],
     start: &Machine<'_, S>,
 ) -> Result<String, AllocError> {
+    let mut json = head_text(alloc, title, text, start)?;
+    json.pop();
+    push_slim(&mut json, start.image().slim())?;
+    Ok(json)
+}
+
+/// The head of a run as an object.
+fn head_text<const S: usize>(
+    alloc: Global,
+    title: RunTitle,
+    text: &[u8],
+    start: &Machine<'_, S>,
+) -> Result<String, AllocError> {
     let places = ProgramNames::of(alloc, text)?;
     let head = head_value(alloc, title, text, &places, start)?;
-    let mut json = head.to_string(alloc)?;
-    json.pop();
-    let slim = u64::from(start.image().slim());
-    push_member(alloc, &mut json, "slim", &Value::from(slim))?;
-    Ok(json)
+    head.to_string(alloc)
+}
+
+/// Adds how many streams a processor has, after other members.
+fn push_slim(json: &mut String, slim: u16) -> Result<(), AllocError> {
+    write!(json, ",\n\"slim\":{slim}")
 }
 
 /// The first position at which the runs of an image by two schedules differ, and in what; null where there is none.
@@ -162,11 +210,17 @@ fn push_named_run<const S: usize>(
     start: &Machine<'_, S>,
     steps: &[Step],
 ) -> Result<(), AllocError> {
-    let name = Value::String(String::from_str(alloc, schedule)?);
     json.push_str("{\"schedule\":")?;
-    json.push_str(&name.to_string(alloc)?)?;
+    push_quoted(alloc, json, schedule)?;
     push_run(alloc, json, start, steps)?;
     json.push_str("}")
+}
+
+/// Adds a text as JSON.
+fn push_quoted(alloc: Global, json: &mut String, text: &str) -> Result<(), AllocError> {
+    let value = Value::String(String::from_str(alloc, text)?);
+    let quoted = value.to_string(alloc)?;
+    json.push_str(&quoted)
 }
 
 /// Adds the members of a run: its steps, waits, findings, what its values come from, and its end.
@@ -177,16 +231,34 @@ fn push_run<const S: usize>(
     schedule: &[Step],
 ) -> Result<(), AllocError> {
     let run = WholeRun::of(alloc, start, schedule)?;
+    push_whole(alloc, json, &run)
+}
+
+/// Adds the members of a whole run.
+fn push_whole(alloc: Global, json: &mut String, run: &WholeRun) -> Result<(), AllocError> {
     push_steps(alloc, json, &run.views)?;
-    push_member(alloc, json, "waits", &waits_value(alloc, &run.waits)?)?;
-    push_member(
-        alloc,
-        json,
-        "findings",
-        &findings_value(alloc, &run.actions)?,
-    )?;
+    push_waits(alloc, json, &run.waits)?;
+    push_findings(alloc, json, &run.actions)?;
     push_origins(alloc, json, &run.views, &run.actions)?;
-    push_member(alloc, json, "end", &end_part(alloc, &run.end)?)
+    push_end(alloc, json, &run.end)
+}
+
+/// Adds the waits of a run.
+fn push_waits(alloc: Global, json: &mut String, waits: &[RunWait]) -> Result<(), AllocError> {
+    let value = waits_value(alloc, waits)?;
+    push_member(alloc, json, "waits", &value)
+}
+
+/// Adds the findings of a run with these steps.
+fn push_findings(alloc: Global, json: &mut String, actions: &[Action]) -> Result<(), AllocError> {
+    let value = findings_value(alloc, actions)?;
+    push_member(alloc, json, "findings", &value)
+}
+
+/// Adds the end of a run.
+fn push_end(alloc: Global, json: &mut String, end: &RunEnd) -> Result<(), AllocError> {
+    let value = end_part(alloc, end)?;
+    push_member(alloc, json, "end", &value)
 }
 
 /// Adds a member after others.
@@ -208,10 +280,16 @@ fn push_steps(alloc: Global, run: &mut String, views: &[StepView]) -> Result<(),
     run.push_str(",\n\"steps\":[")?;
     for (index, view) in views.iter().enumerate() {
         run.push_str(if index == 0 { "\n" } else { ",\n" })?;
-        let value = step_part(alloc, view)?;
-        run.push_str(&value.to_string(alloc)?)?;
+        push_step(alloc, run, view)?;
     }
     run.push_str("]")
+}
+
+/// Adds a step.
+fn push_step(alloc: Global, run: &mut String, view: &StepView) -> Result<(), AllocError> {
+    let value = step_part(alloc, view)?;
+    let text = value.to_string(alloc)?;
+    run.push_str(&text)
 }
 
 /// The waits of a run.

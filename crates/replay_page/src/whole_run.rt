@@ -30,13 +30,35 @@ impl WholeRun {
         schedule: &[Step],
     ) -> Result<WholeRun, AllocError> {
         let (views, end) = views_and_end(alloc, start, schedule)?;
+        let waits = waits_from(alloc, start, &views)?;
+        let actions = actions_from(alloc, start, schedule)?;
         Ok(WholeRun {
-            waits: run_waits(alloc, &mut start.try_clone()?, &views)?,
-            actions: run_actions(alloc, &mut start.try_clone()?, schedule)?,
             views,
+            actions,
+            waits,
             end,
         })
     }
+}
+
+/// The waits of the run of these steps from the machine's world on.
+fn waits_from<const S: usize>(
+    alloc: Global,
+    start: &Machine<'_, S>,
+    views: &[StepView],
+) -> Result<Vec<RunWait>, AllocError> {
+    let mut machine = start.try_clone()?;
+    run_waits(alloc, &mut machine, views)
+}
+
+/// What the steps of a schedule do from the machine's world on, for findings.
+fn actions_from<const S: usize>(
+    alloc: Global,
+    start: &Machine<'_, S>,
+    schedule: &[Step],
+) -> Result<Vec<Action>, AllocError> {
+    let mut machine = start.try_clone()?;
+    run_actions(alloc, &mut machine, schedule)
 }
 
 /// What the steps of a machine's run did, and how it ended.

@@ -7,7 +7,7 @@ use crate::row_values::{row_value, some_text_value};
 use crate::sealed::{sealed, unsealed};
 use class_results::{Checksum, ResultBasis};
 use grade_reports::GradeRow;
-use lab_json::{List, Object, text_value};
+use grade_reports::json_values::{List, Object, text_value};
 use serde_json::Value;
 use std::alloc::{AllocError, Global};
 
@@ -67,12 +67,17 @@ pub fn head_line(alloc: Global, head: &ClassHead) -> Result<String, AllocError> 
     put_checksum(alloc, &mut object, "cases", &head.cases);
     object.put_number("named_cases", head.named_cases as u64);
     object.put_number("points", head.points);
-    let mut submissions = List::new(alloc);
-    for path in &head.submissions {
-        submissions.put(text_value(alloc, path));
-    }
-    object.put("submissions", submissions.whole());
+    object.put("submissions", paths_value(alloc, &head.submissions));
     line_of(alloc, object)
+}
+
+/// A list of paths.
+fn paths_value(alloc: Global, paths: &[String]) -> Result<Value, AllocError> {
+    let mut values = List::new(alloc);
+    for path in paths {
+        values.put(text_value(alloc, path));
+    }
+    values.whole()
 }
 
 /// The line of what was said of the submission of a path, with its end.
@@ -137,15 +142,25 @@ fn said_in(alloc: Global, object: &Value) -> Result<ResultLine, ReadFault> {
 
 /// The head of these members.
 fn head_in(alloc: Global, object: &Value) -> Result<ClassHead, ReadFault> {
+    let options = sum_in(object, "options")?;
+    let cases = sum_in(object, "cases")?;
+    let named_cases = count_in(object, "named_cases")?;
+    let points = number_in(object, "points")?;
     let mut head = ClassHead {
         version: String::new(alloc),
         part: None,
-        options: sum_in(object, "options")?,
-        cases: sum_in(object, "cases")?,
-        named_cases: count_in(object, "named_cases")?,
-        points: number_in(object, "points")?,
+        options,
+        cases,
+        named_cases,
+        points,
         submissions: Vec::new(alloc),
     };
+    read_head(alloc, object, &mut head)?;
+    Ok(head)
+}
+
+/// Reads the version, the part and the submissions.
+fn read_head(alloc: Global, object: &Value, head: &mut ClassHead) -> Result<(), ReadFault> {
     head.version.push_str(text_in(object, "program")?)?;
     if let Some(part) = some_text_in(object, "part")? {
         head.part = Some(String::from_str(alloc, part)?);
@@ -154,7 +169,7 @@ fn head_in(alloc: Global, object: &Value) -> Result<ClassHead, ReadFault> {
         let path = wanted(path.as_str())?;
         head.submissions.push(String::from_str(alloc, path)?)?;
     }
-    Ok(head)
+    Ok(())
 }
 
 /// The result of these members.
@@ -164,11 +179,12 @@ fn result_in(alloc: Global, object: &Value) -> Result<KeptResult, ReadFault> {
         cases: sum_in(object, "cases")?,
         options: sum_in(object, "options")?,
     };
-    let row = row_in(alloc, wanted(object.get("row"))?)?;
+    let value = wanted(object.get("row"))?;
+    let submission = String::from_str(alloc, text_in(object, "submission")?)?;
     Ok(KeptResult {
-        submission: String::from_str(alloc, text_in(object, "submission")?)?,
+        submission,
         basis,
-        row,
+        row: row_in(alloc, value)?,
     })
 }
 

@@ -5,7 +5,7 @@ use crate::members::{
     text_in, wanted,
 };
 use crate::row_words::{bound_of, end_kind_of, kind_of, status_of};
-use end_kinds::Status;
+use end_kinds::{EndKind, Status};
 use grade_reports::judges::{Known, VerdictKind, Witness};
 use grade_reports::{CaseRow, CountedEnd, GradeRow, ReportLine, SourcePosition};
 use processor::Step;
@@ -16,6 +16,12 @@ use std::alloc::Global;
 pub(crate) fn row_in(alloc: Global, value: &Value) -> Result<GradeRow, ReadFault> {
     let mut row = GradeRow::plain(alloc, kind_in(value)?, known_in(value)?);
     row.status = status_in(value)?;
+    read_row(alloc, value, &mut row)?;
+    Ok(row)
+}
+
+/// Reads what a row says, and shows.
+fn read_row(alloc: Global, value: &Value, row: &mut GradeRow) -> Result<(), ReadFault> {
     row.place = place_in(value)?;
     row.words.push_str(text_in(value, "words")?)?;
     row.finding.push_str(text_in(value, "finding")?)?;
@@ -23,8 +29,7 @@ pub(crate) fn row_in(alloc: Global, value: &Value) -> Result<GradeRow, ReadFault
     row.witness = witness_in(alloc, value)?;
     row.missed = missed_in(alloc, value)?;
     add_cases(alloc, list_in(value, "cases")?, &mut row.cases)?;
-    add_ends(alloc, list_in(value, "ends")?, &mut row.ends)?;
-    Ok(row)
+    add_ends(alloc, list_in(value, "ends")?, &mut row.ends)
 }
 
 /// Adds what is said by the cases of these values.
@@ -37,27 +42,47 @@ fn add_cases(alloc: Global, values: &[Value], cases: &mut Vec<CaseRow>) -> Resul
 
 /// What is said by the case of a value.
 fn case_in(alloc: Global, value: &Value) -> Result<CaseRow, ReadFault> {
-    let Ok(points) = u32::try_from(number_in(value, "points")?) else {
-        return Err(ReadFault::Damaged);
-    };
-    let mut case = CaseRow {
+    let mut case = plain_case_in(alloc, value)?;
+    read_case(alloc, value, &mut case)?;
+    Ok(case)
+}
+
+/// What is said by the case of a value, but for its name, for what shows it and for its words.
+fn plain_case_in(alloc: Global, value: &Value) -> Result<CaseRow, ReadFault> {
+    let points = points_in(value)?;
+    let is_hidden = flag_in(value, "hidden")?;
+    let (kind, status) = (kind_in(value)?, status_in(value)?);
+    let known = known_in(value)?;
+    Ok(CaseRow {
         name: None,
-        is_hidden: flag_in(value, "hidden")?,
+        is_hidden,
         points,
-        kind: kind_in(value)?,
-        known: known_in(value)?,
+        kind,
+        known,
         witness: Witness::None,
         missed: None,
         words: String::new(alloc),
         finding: String::new(alloc),
-        status: status_in(value)?,
-    };
+        status,
+    })
+}
+
+/// How many points there are for a case.
+fn points_in(value: &Value) -> Result<u32, ReadFault> {
+    match u32::try_from(number_in(value, "points")?) {
+        Ok(points) => Ok(points),
+        Err(_) => Err(ReadFault::Damaged),
+    }
+}
+
+/// Reads the name of a case, what shows the verdict by it, and its words.
+fn read_case(alloc: Global, value: &Value, case: &mut CaseRow) -> Result<(), ReadFault> {
     case.words.push_str(text_in(value, "words")?)?;
     case.finding.push_str(text_in(value, "finding")?)?;
     case.name = name_in(alloc, value, "name")?;
     case.witness = witness_in(alloc, value)?;
     case.missed = missed_in(alloc, value)?;
-    Ok(case)
+    Ok(())
 }
 
 /// Adds the ends of these values.
@@ -70,21 +95,33 @@ fn add_ends(alloc: Global, values: &[Value], ends: &mut Vec<CountedEnd>) -> Resu
 
 /// The ends of a value, which are counted as one.
 fn end_in(alloc: Global, value: &Value) -> Result<CountedEnd, ReadFault> {
-    let kind = match some_text_in(value, "end")? {
-        Some(word) => Some(wanted(end_kind_of(word))?),
-        None => None,
-    };
+    let kind = counted_kind_in(value)?;
+    let count = count_in(value, "count")?;
     let mut end = CountedEnd {
         kind,
-        count: count_in(value, "count")?,
+        count,
         witness: Witness::None,
         text: String::new(alloc),
         missed: None,
     };
+    read_end(alloc, value, &mut end)?;
+    Ok(end)
+}
+
+/// How the ends of a value are called; None where a claim is broken.
+fn counted_kind_in(value: &Value) -> Result<Option<EndKind>, ReadFault> {
+    match some_text_in(value, "end")? {
+        Some(word) => Ok(Some(wanted(end_kind_of(word))?)),
+        None => Ok(None),
+    }
+}
+
+/// Reads what leads to ends, what they are in words, and the line that they miss.
+fn read_end(alloc: Global, value: &Value, end: &mut CountedEnd) -> Result<(), ReadFault> {
     end.text.push_str(text_in(value, "text")?)?;
     end.witness = witness_in(alloc, value)?;
     end.missed = missed_in(alloc, value)?;
-    Ok(end)
+    Ok(())
 }
 
 /// The verdict that a value names.
@@ -133,13 +170,17 @@ fn witness_in(alloc: Global, value: &Value) -> Result<Witness, ReadFault> {
         return Ok(Witness::None);
     }
     let mut steps = Vec::new(alloc);
-    for step in list_in(witness, "steps")? {
-        steps.push(Step {
-            p: byte_in(step, "p")?,
-            s: byte_in(step, "s")?,
-        })?;
-    }
+    add_steps(list_in(witness, "steps")?, &mut steps)?;
     Ok(Witness::Schedule(steps))
+}
+
+/// Adds the steps of these values.
+fn add_steps(values: &[Value], steps: &mut Vec<Step>) -> Result<(), ReadFault> {
+    for value in values {
+        let (p, s) = (byte_in(value, "p")?, byte_in(value, "s")?);
+        steps.push(Step { p, s })?;
+    }
+    Ok(())
 }
 
 /// A number of eight bits.

@@ -2,9 +2,9 @@
 
 use crate::hex::checksum_of;
 use class_results::Checksum;
+use grade_reports::json_values::{List, Object, text_value};
 use grade_reports::judges::{Known, Witness};
 use grade_reports::{CaseRow, CountedEnd, GradeRow, ReportLine, SourcePosition};
-use lab_json::{List, Object, text_value};
 use processor::Step;
 use serde_json::Value;
 use std::alloc::{AllocError, Global};

@@ -14,7 +14,7 @@ const DIGITS: usize = 64;
 
 /// The line of an object that has a member at least, with the checksum of its text as its last member `sum`.
 pub(crate) fn sealed(alloc: Global, object: &str) -> Result<String, AllocError> {
-    let digits = hex_of(alloc, &checksum_of(object.as_bytes()))?;
+    let digits = digits_of(alloc, object)?;
     let open = object.strip_suffix('}').unwrap_or(object);
     format!(in alloc; "{open}{BEFORE}{digits}{AFTER}\n")
 }
@@ -25,12 +25,17 @@ pub(crate) fn unsealed(alloc: Global, line: &str) -> Result<Option<String>, Allo
         return Ok(None);
     };
     let object = format!(in alloc; "{open}}}")?;
-    let wanted = hex_of(alloc, &checksum_of(object.as_bytes()))?;
+    let wanted = digits_of(alloc, &object)?;
     if wanted.as_str() == digits {
         Ok(Some(object))
     } else {
         Ok(None)
     }
+}
+
+/// The digits of a text's checksum. It has no clause, so that of [`checksum_of`] burdens no proof above it.
+fn digits_of(alloc: Global, text: &str) -> Result<String, AllocError> {
+    hex_of(alloc, &checksum_of(text.as_bytes()))
 }
 
 /// A line's object without its end, and the digits of its checksum.

@@ -5,7 +5,7 @@ use Rattle.std.specs.Prelude.{find, filter, Contains, slice_get, option_and_then
 use Rattle.std.specs.Option.{option_or}
 use Rattle.std.proofs.lemmas.Option.{same_Some, option_and_then_some, slice_get_within, get_or_from_slice_get}
 use Rattle.processor.specs.declared.steps.Step.{Step}
-use Rattle.schedule_makers.specs.Rules.{last_step, is_behind, is_of_later, is_behind_last, next_behind}
+use Rattle.schedule_makers.specs.Rules.{last_step, is_behind, is_of_later, is_after_last, next_after}
 use Rattle.schedule_makers.specs.Rules.{choice_in_rounds, of_processor, fair_choice}
 
 -- Of lists.
@@ -71,18 +71,18 @@ or_none None p e = e
 or_none (Some u) p e = absurd (let h : ⊥ = cc in h)
 
 behind-one : (by : Step → Step → Bool) (last : Option Step) (runs : List Step) (t : Step)
-    → next_behind by last runs ≡ Some t → Contains runs t
+    → next_after by last runs ≡ Some t → Contains runs t
 behind-one by last runs t e =
-    or_one t runs (find (is_behind_last by last) runs) (slice_get runs 0)
-    (contains-find (is_behind_last by last) runs t) (contains-get runs 0 t) e
+    or_one t runs (find (is_after_last by last) runs) (slice_get runs 0)
+    (contains-find (is_after_last by last) runs t) (contains-get runs 0 t) e
 
 no_first : (xs : List Step) → slice_get xs 0 ≡ None → xs ≡ []
 no_first [] e = refl
 no_first (x ∷ xs) e = absurd (let h : ⊥ = cc in h)
 
-behind-any : (by : Step → Step → Bool) (last : Option Step) (runs : List Step) → next_behind by last runs ≡ None
+behind-any : (by : Step → Step → Bool) (last : Option Step) (runs : List Step) → next_after by last runs ≡ None
     → runs ≡ []
-behind-any by last runs e = no_first runs (or_none (find (is_behind_last by last) runs) (slice_get runs 0) e)
+behind-any by last runs e = no_first runs (or_none (find (is_after_last by last) runs) (slice_get runs 0) e)
 
 -- In rounds.
 
@@ -100,7 +100,7 @@ own before runs u = choice_in_rounds (of_processor u.p before) (of_processor u.p
 
 pub fair-one : (before runs : List Step) (t : Step) → fair_choice before runs ≡ Some t → Contains runs t
 fair-one before runs t e =
-    option_and_then_some (own before runs) (next_behind is_of_later (last_step before) runs) t e
+    option_and_then_some (own before runs) (next_after is_of_later (last_step before) runs) t e
     (λ u is inner. contains-filter (λ s. s.p == u.p) runs t
     (rounds-one (of_processor u.p before) (of_processor u.p runs) t inner))
 
@@ -111,7 +111,7 @@ some_or_none (Some u) f e contra = absurd (contra u refl e)
 
 pub fair-any : (before runs : List Step) → fair_choice before runs ≡ None → runs ≡ []
 fair-any before runs e =
-    let next = next_behind is_of_later (last_step before) runs in
+    let next = next_after is_of_later (last_step before) runs in
     behind-any is_of_later (last_step before) runs
     (some_or_none next (own before runs) e
     (λ u is inner. none-filtered (λ s. s.p == u.p) runs u (eq-eqb u.p u.p refl)
@@ -131,15 +131,15 @@ none-taken (Some t) o runs is any = tt
 
 -- The fair rule by its parts.
 
-pub fair-none : (before runs : List Step) → next_behind is_of_later (last_step before) runs ≡ None
+pub fair-none : (before runs : List Step) → next_after is_of_later (last_step before) runs ≡ None
     → None ≡ fair_choice before runs
 fair-none before runs e = sym (ap (option_and_then (own before runs)) e)
 
 pub fair-is : (before runs : List Step) (u : Step) (last r : Option Step)
-    → next_behind is_of_later (last_step before) runs ≡ Some u → last ≡ last_step (of_processor u.p before)
-    → r ≡ next_behind is_behind last (of_processor u.p runs) → r ≡ fair_choice before runs
+    → next_after is_of_later (last_step before) runs ≡ Some u → last ≡ last_step (of_processor u.p before)
+    → r ≡ next_after is_behind last (of_processor u.p runs) → r ≡ fair_choice before runs
 fair-is before runs u last r first was is =
-    is ∙ ap (λ o. next_behind is_behind o (of_processor u.p runs)) was
+    is ∙ ap (λ o. next_after is_behind o (of_processor u.p runs)) was
     ∙ sym (ap (option_and_then (own before runs)) first)
 
 first_kept : (b : Bool) (t : Step) (ts : List Step) (p : ℕ)

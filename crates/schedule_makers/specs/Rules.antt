@@ -37,17 +37,17 @@ abbrev pub is_of_later : Step → Step → Bool
 is_of_later t u = nat_lt t.p u.p
 
 -- whether a step stands behind the last one in an order; each does where there is no last one
-abbrev pub is_behind_last : (Step → Step → Bool) → Option Step → Step → Bool
-is_behind_last behind None u = true
-is_behind_last behind (Some t) u = behind t u
+abbrev pub is_after_last : (Step → Step → Bool) → Option Step → Step → Bool
+is_after_last behind None u = true
+is_after_last behind (Some t) u = behind t u
 
 -- the first of the running streams that stands behind the last step in an order, else the first of them
-abbrev pub next_behind : (Step → Step → Bool) → Option Step → List Step → Option Step
-next_behind behind last runs = option_or (find (is_behind_last behind last) runs) (slice_get runs 0)
+abbrev pub next_after : (Step → Step → Bool) → Option Step → List Step → Option Step
+next_after behind last runs = option_or (find (is_after_last behind last) runs) (slice_get runs 0)
 
 -- In rounds: the next one behind the last step in the order of processor and stream, and from the first again.
 abbrev pub choice_in_rounds : Choice
-choice_in_rounds before runs = next_behind is_behind (last_step before) runs
+choice_in_rounds before runs = next_after is_behind (last_step before) runs
 
 abbrev pub next_in_rounds : Rule
 next_in_rounds = among_running choice_in_rounds
@@ -61,7 +61,7 @@ of_processor p ts = filter (λ t. t.p == p) ts
 abbrev pub fair_choice : Choice
 fair_choice before runs =
     option_and_then (λ u. choice_in_rounds (of_processor u.p before) (of_processor u.p runs))
-    (next_behind is_of_later (last_step before) runs)
+    (next_after is_of_later (last_step before) runs)
 
 abbrev pub next_fair : Rule
 next_fair = among_running fair_choice

@@ -1,10 +1,10 @@
 //! The running streams, a processor after the other.
 
 ghost use Rattle.std.specs.Prelude.{◌≡◌, ◌==◌, ◌∷◌, ◌++◌, [], None, IfSome, find, slice_index_or};
-ghost use Rattle.schedule_makers.specs.Rules.{is_behind, is_of_later, is_behind_last, next_behind, fair_choice, of_processor};
+ghost use Rattle.schedule_makers.specs.Rules.{is_behind, is_of_later, is_after_last, next_after, fair_choice, of_processor};
 ghost use Rattle.schedule_makers.specs.Fair.{AreLast};
 
-use crate::rounds_choice::is_behind_last;
+use crate::rounds_choice::is_after_last;
 use crate::steps_at::step_at;
 use processor::Step;
 
@@ -43,20 +43,20 @@ impl Fair {
 
 /// The first of the running streams whose processor comes after that of the last step, else the first of them.
 fn next_of_later(last: Option<Step>, running: &[Step]) -> Option<Step>
-    ensures { result ≡ next_behind is_of_later last running.now }
+    ensures { result ≡ next_after is_of_later last running.now }
 {
     first_of_later(last, running).or(step_at(running, 0))
 }
 
 fn first_of_later(last: Option<Step>, running: &[Step]) -> Option<Step>
-    ensures { result ≡ find (is_behind_last is_of_later last) running.now }
+    ensures { result ≡ find (is_after_last is_of_later last) running.now }
 {
     running.iter().copied().find(|u| is_of_later(last, *u))
 }
 
 /// Whether a step's processor comes after that of the last one.
 fn is_of_later(last: Option<Step>, step: Step) -> bool
-    ensures { result ≡ is_behind_last is_of_later last step }
+    ensures { result ≡ is_after_last is_of_later last step }
 {
     match last {
         None => true,
@@ -66,19 +66,19 @@ fn is_of_later(last: Option<Step>, step: Step) -> bool
 
 /// The first of the processor's running streams that comes after its last step, else the first of them.
 fn next_of(p: u8, last: Option<Step>, running: &[Step]) -> Option<Step>
-    ensures { result ≡ next_behind is_behind last (of_processor p running.now) }
+    ensures { result ≡ next_after is_behind last (of_processor p running.now) }
 {
     next_own(p, last, running).or(first_own(p, running))
 }
 
 fn next_own(p: u8, last: Option<Step>, running: &[Step]) -> Option<Step>
-    ensures { result ≡ find (is_behind_last is_behind last) (of_processor p running.now) }
+    ensures { result ≡ find (is_after_last is_behind last) (of_processor p running.now) }
 {
     running
         .iter()
         .copied()
         .filter(|u| u.p == p)
-        .find(|u| is_behind_last(last, *u))
+        .find(|u| is_after_last(last, *u))
 }
 
 fn first_own(p: u8, running: &[Step]) -> Option<Step>

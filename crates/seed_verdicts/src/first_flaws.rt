@@ -51,8 +51,8 @@ pub fn first_flaw<R: Threads + Sync, const S: usize>(
     let mut count = FIRST_COUNT;
     while begin < seeds.count {
         let end = begin + count.min(seeds.count - begin);
-        let told = flaws_of::<R, S>(rt, alloc, &judging, seeds.first, begin, end)?;
-        if let Some((place, flaw)) = first_told(&told) {
+        let known = flaws_of::<R, S>(rt, alloc, &judging, seeds.first, begin, end)?;
+        if let Some((place, flaw)) = first_known(&known) {
             let seed = seeds.first.wrapping_add((begin + place) as u64);
             return Ok(Some(SeedFlaw { seed, flaw }));
         }
@@ -99,35 +99,35 @@ fn flaws_of<R: Threads + Sync, const S: usize>(
     end: usize,
 ) -> Result<Vec<Option<RunFlaw>>, LoadFault>
     requires { begin ≤ end }
-    ensures told { let j = judging.now in IfOk result
+    ensures known { let j = judging.now in IfOk result
         (λ v. AreToldFrom j.image.now j.expected.now j.claims.now j.fair j.most first begin end v.items) }
     ensures memory { ¬ (result ≡ Err LoadFault.Streams) }
 {
-    let told = (begin..end)
+    let known = (begin..end)
         .into_par_iter()
         .map(
             |place: usize| -> Result<Option<RunFlaw>, LoadFault>
-                ensures { let j = judging.entry.now in IfOk result (λ told. IsSeedTold
-                    j.image.now j.expected.now j.claims.now j.fair j.most (seed_at first place) told) }
+                ensures { let j = judging.entry.now in IfOk result (λ known. IsSeedTold
+                    j.image.now j.expected.now j.claims.now j.fair j.most (seed_at first place) known) }
             { seed_flaw::<S>(alloc, judging, first.wrapping_add(place as u64)) },
         )
         .with_min_len(1)
         .collect::<Result<Vec<Option<RunFlaw>>, LoadFault>>(rt, alloc);
-    match told {
-        Ok(Ok(told)) => Ok(told),
+    match known {
+        Ok(Ok(known)) => Ok(known),
         Ok(Err(_)) | Err(_) => Err(LoadFault::NoMemory),
     }
 }
 
 /// The first flaw of some, and its place.
-fn first_told(told: &[Option<RunFlaw>]) -> Option<(usize, RunFlaw)>
-    ensures within { IfSome result (λ f. f.0 < length told.now) }
+fn first_known(known: &[Option<RunFlaw>]) -> Option<(usize, RunFlaw)>
+    ensures within { IfSome result (λ f. f.0 < length known.now) }
     ensures first { MatchOption result
-        ((k : ℕ) → k < length told.now → slice_get told.now k ≡ Some None)
-        (λ f. (slice_get told.now f.0 ≡ Some (Some f.1)) × ((k : ℕ) → k < f.0 → slice_get told.now k ≡ Some None)) }
+        ((k : ℕ) → k < length known.now → slice_get known.now k ≡ Some None)
+        (λ f. (slice_get known.now f.0 ≡ Some (Some f.1)) × ((k : ℕ) → k < f.0 → slice_get known.now k ≡ Some None)) }
 {
-    for place in 0..told.len() {
-        if let Some(flaw) = told[place] {
+    for place in 0..known.len() {
+        if let Some(flaw) = known[place] {
             return Some((place, flaw));
         }
     }

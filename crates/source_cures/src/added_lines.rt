@@ -12,7 +12,7 @@ use std::alloc::{AllocError, Global};
 pub(crate) fn propose_line(out: &mut Proposals, marked: &Marked) -> Result<(), AllocError> {
     let alloc = out.alloc();
     if marked.help == "did you forget QUIT?" {
-        let edit = line_behind(alloc, marked.lines.text(), marked.line.end(), "QUIT")?;
+        let edit = line_after(alloc, marked.lines.text(), marked.line.end(), "QUIT")?;
         out.propose_one("add QUIT", edit)
     } else if marked.help == ".data 0 adds one" {
         let edit = last_line(alloc, marked.lines.text(), ".data 0")?;
@@ -30,7 +30,7 @@ pub(crate) fn propose_line(out: &mut Proposals, marked: &Marked) -> Result<(), A
 }
 
 /// The edit that adds a statement on a line of its own after the line that ends at a place.
-fn line_behind(
+fn line_after(
     alloc: Global,
     text: &[u8],
     end: usize,
@@ -97,13 +97,13 @@ fn propose_own_line(out: &mut Proposals, marked: &Marked) -> Result<(), AllocErr
         return out.propose_one(title, replaced(alloc, line, gap, text.as_str())?);
     }
     let mut edits = Vec::new(alloc);
-    if let Some((before, behind)) = line.around_bar(marked.mark.start) {
-        edits.push(split_between(alloc, line, before, behind)?)?;
+    if let Some((before, after)) = line.around_bar(marked.mark.start) {
+        edits.push(split_between(alloc, line, before, after)?)?;
     }
     let operation = marked.operation();
     let rest = line
         .statement()
-        .behind(end_of(operation).saturating_sub(line.statement().start));
+        .after(end_of(operation).saturating_sub(line.statement().start));
     if let (_, Some(following)) = rest.cut(b'|') {
         edits.push(split_between(alloc, line, operation, trimmed(following))?)?;
     }
@@ -114,8 +114,8 @@ fn propose_own_line(out: &mut Proposals, marked: &Marked) -> Result<(), AllocErr
 fn propose_two_words(out: &mut Proposals, marked: &Marked) -> Result<(), AllocError> {
     let alloc = out.alloc();
     match marked.line.around_bar(marked.mark.start) {
-        Some((before, behind)) => {
-            let edit = split_between(alloc, &marked.line, before, behind)?;
+        Some((before, after)) => {
+            let edit = split_between(alloc, &marked.line, before, after)?;
             out.propose_one("write two words", edit)
         }
         None => Ok(()),
@@ -127,16 +127,16 @@ fn split_between(
     alloc: Global,
     line: &SourceLine,
     before: Token,
-    behind: Token,
+    after: Token,
 ) -> Result<TextEdit, AllocError> {
-    let gap = between(line, end_of(before), behind.start);
+    let gap = between(line, end_of(before), after.start);
     let text = format!(in alloc; "\n{INDENT}")?;
     replaced(alloc, line, gap, text.as_str())
 }
 
 /// The part of a line between two places.
 fn between<'t>(line: &SourceLine<'t>, from: usize, to: usize) -> Token<'t> {
-    line.whole.behind(from).before(to.saturating_sub(from))
+    line.whole.after(from).before(to.saturating_sub(from))
 }
 
 /// Proposes a line of its own, or a bar, before the operation that stands in the mark.

@@ -62,14 +62,14 @@ pub(crate) fn propose_letters(out: &mut Proposals, marked: &Marked) -> Result<()
         Some(LetterCure::Comment) => propose_comment(out, marked),
         Some(LetterCure::Colon) => match marked.line.label() {
             Some(label) => {
-                let colon = marked.line.whole.behind(end_of(label)).before(1);
+                let colon = marked.line.whole.after(end_of(label)).before(1);
                 out.take_away(&marked.line, colon, "take the colon away")
             }
             None => Ok(()),
         },
         Some(LetterCure::LabelBlank) => match marked.line.label() {
             Some(label) => {
-                let blanks = label.behind(trimmed_length(label));
+                let blanks = label.after(trimmed_length(label));
                 out.take_away(&marked.line, blanks, "take the blank away")
             }
             None => Ok(()),
@@ -77,7 +77,7 @@ pub(crate) fn propose_letters(out: &mut Proposals, marked: &Marked) -> Result<()
         Some(LetterCure::SuffixBlank) => {
             let end = end_of(marked.head());
             let count = marked.mark.start.saturating_sub(end);
-            let blanks = marked.line.whole.behind(end).before(count);
+            let blanks = marked.line.whole.after(end).before(count);
             out.take_away(&marked.line, blanks, "take the blank away")
         }
         Some(LetterCure::SmallLetter) => propose_small(out, marked),
@@ -104,7 +104,7 @@ fn trimmed_length(piece: Token) -> usize {
 
 /// Proposes a semicolon in place of what begins a comment on other machines, at the mark or after it.
 fn propose_comment(out: &mut Proposals, marked: &Marked) -> Result<(), AllocError> {
-    let rest = marked.line.whole.behind(marked.mark.start);
+    let rest = marked.line.whole.after(marked.mark.start);
     for (place, byte) in rest.bytes.iter().enumerate() {
         let next = rest
             .bytes
@@ -119,7 +119,7 @@ fn propose_comment(out: &mut Proposals, marked: &Marked) -> Result<(), AllocErro
             _ => 0,
         };
         if width > 0 {
-            let sign = rest.behind(place).before(width);
+            let sign = rest.after(place).before(width);
             return out.write(&marked.line, sign, ";");
         }
     }
@@ -135,10 +135,10 @@ fn propose_small(out: &mut Proposals, marked: &Marked) -> Result<(), AllocError>
 
 /// Proposes the mark without the zeros after its first letter.
 fn propose_without_zeros(out: &mut Proposals, marked: &Marked) -> Result<(), AllocError> {
-    let digits = marked.mark.behind(1);
+    let digits = marked.mark.after(1);
     let zeros = digits.bytes.iter().position(|byte| *byte != b'0');
     let count = zeros.unwrap_or(digits.bytes.len().saturating_sub(1));
-    let text = format!(in out.alloc(); "r{}", text_of(digits.behind(count)))?;
+    let text = format!(in out.alloc(); "r{}", text_of(digits.after(count)))?;
     out.write(&marked.line, marked.mark, text.as_str())
 }
 
@@ -163,7 +163,7 @@ fn propose_one_bar(out: &mut Proposals, marked: &Marked) -> Result<(), AllocErro
         .before(marked.mark.start.saturating_add(1));
     match front.bytes.iter().rposition(|byte| *byte == b'|') {
         Some(place) => {
-            let bar = front.behind(place).before(1);
+            let bar = front.after(place).before(1);
             out.take_away(&marked.line, bar, "take the bar away")
         }
         None => Ok(()),
@@ -175,7 +175,7 @@ fn propose_bar(out: &mut Proposals, marked: &Marked) -> Result<(), AllocError> {
     let Some(place) = marked.mark.bytes.iter().position(|byte| *byte == b'&') else {
         return Ok(());
     };
-    let rest = marked.mark.behind(place);
+    let rest = marked.mark.after(place);
     let width = if rest.bytes.starts_with(b"&&") { 2 } else { 1 };
     out.write(&marked.line, rest.before(width), "|")
 }

@@ -26,13 +26,13 @@ pub(crate) struct Marked<'t> {
 impl<'t> Marked<'t> {
     /// A message about a text.
     pub fn of(lines: &'t LineStarts<'t>, message: &'t Message) -> Marked<'t> {
-        let line = SourceLine::behind(lines.text(), message.start);
+        let line = SourceLine::after(lines.text(), message.start);
         let column = message.column.saturating_sub(1);
         Marked {
             lines,
             line,
             row: message.line,
-            mark: line.whole.behind(column).before(message.width),
+            mark: line.whole.after(column).before(message.width),
             words: message.words.as_str(),
             help: match &message.help {
                 Some(help) => help.as_str(),

@@ -46,7 +46,7 @@ fn number_among<'t>(sentences: &[&str], help: &'t str) -> Option<&'t str> {
 
 /// Proposes what is written in place of a number with a sign: SUB for ADD and ADD for SUB, or LIT and then SUB.
 fn propose_unsigned(out: &mut Proposals, marked: &Marked, rest: &str) -> Result<(), AllocError> {
-    let digits = text_of(marked.mark.behind(1));
+    let digits = text_of(marked.mark.after(1));
     if !marked.mark.begins(b'-') {
         return out.write(&marked.line, marked.mark, digits);
     }
@@ -89,5 +89,5 @@ fn propose_other_sign(
 
 /// What follows the three letters of a name.
 fn suffix_of(head: Token<'_>) -> Token<'_> {
-    head.behind(3)
+    head.after(3)
 }

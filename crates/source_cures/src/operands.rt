@@ -68,7 +68,7 @@ fn rest_of<'t>(out: &Proposals, marked: &Marked<'t>) -> Result<Option<Token<'t>>
         return Ok(None);
     };
     let from = second.start.saturating_sub(operation.start);
-    Ok(Some(operation.behind(from)))
+    Ok(Some(operation.after(from)))
 }
 
 /// Proposes one line that makes what the operation at the mark uses, and how the operation is written then. SKIP also takes

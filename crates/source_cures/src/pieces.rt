@@ -10,7 +10,7 @@ const MOST_PIECES: usize = 64;
 /// A piece without the blanks at its ends. Where it has nothing else, it is at its own end.
 pub(crate) fn trimmed(piece: Token<'_>) -> Token<'_> {
     let front = piece.bytes.iter().position(|byte| !is_blank(*byte));
-    let rest = piece.behind(front.unwrap_or(piece.bytes.len()));
+    let rest = piece.after(front.unwrap_or(piece.bytes.len()));
     match rest.bytes.iter().rposition(|byte| !is_blank(*byte)) {
         Some(last) => rest.before(last.saturating_add(1)),
         None => rest,
@@ -20,8 +20,8 @@ pub(crate) fn trimmed(piece: Token<'_>) -> Token<'_> {
 /// What stands before the first blank of a piece, and what stands after it, without blanks at its ends.
 pub(crate) fn split_head(piece: Token<'_>) -> (Token<'_>, Token<'_>) {
     match piece.bytes.iter().position(|byte| is_blank(*byte)) {
-        Some(place) => (piece.before(place), trimmed(piece.behind(place))),
-        None => (piece, piece.behind(piece.bytes.len())),
+        Some(place) => (piece.before(place), trimmed(piece.after(place))),
+        None => (piece, piece.after(piece.bytes.len())),
     }
 }
 

@@ -54,9 +54,9 @@ fn place_on(
 }
 
 /// The number of a line that stands in a sentence between some words.
-fn line_between(text: &str, before: &str, behind: &str) -> Option<usize> {
+fn line_between(text: &str, before: &str, after: &str) -> Option<usize> {
     let (_, rest) = text.split_once(before)?;
-    let number = match rest.split_once(behind) {
+    let number = match rest.split_once(after) {
         Some((number, _)) => number,
         None => rest,
     };
@@ -97,8 +97,8 @@ fn name_on<'t>(line: &SourceLine<'t>, name: &[u8]) -> Option<Token<'t>> {
         Some(label) if trimmed(label).bytes == name => Some(trimmed(label)),
         _ => {
             let comment = line.comment()?;
-            let behind = comment.behind(name.len());
-            let is_whole = match behind.bytes.first() {
+            let after = comment.after(name.len());
+            let is_whole = match after.bytes.first() {
                 Some(byte) => *byte == b':' || is_blank(*byte),
                 None => true,
             };

@@ -116,18 +116,18 @@ fn propose_order(
     let Some((before, rest)) = marked.line.around_bar(marked.mark.start) else {
         return Ok(());
     };
-    let behind = trimmed(rest.cut(b'|').0);
+    let after = trimmed(rest.cut(b'|').0);
     let before = match before.bytes.iter().rposition(|byte| *byte == b'|') {
-        Some(bar) => trimmed(before.behind(bar.saturating_add(1))),
+        Some(bar) => trimmed(before.after(bar.saturating_add(1))),
         None => before,
     };
-    let text = format!(in out.alloc(); "{} | {}", text_of(behind), text_of(before))?;
+    let text = format!(in out.alloc(); "{} | {}", text_of(after), text_of(before))?;
     let both = marked
         .line
         .whole
-        .behind(before.start)
-        .before(end_of(behind).saturating_sub(before.start));
-    if begins_with(behind, second) && begins_with(before, first) {
+        .after(before.start)
+        .before(end_of(after).saturating_sub(before.start));
+    if begins_with(after, second) && begins_with(before, first) {
         out.write(&marked.line, both, text.as_str())
     } else {
         Ok(())

@@ -45,7 +45,7 @@ impl<'t> LineStarts<'t> {
     /// The line of a number, from 1; None where the text has fewer.
     pub fn line(&self, number: usize) -> Option<SourceLine<'t>> {
         let start = self.starts.get(number.checked_sub(1)?)?;
-        Some(SourceLine::behind(self.text, *start))
+        Some(SourceLine::after(self.text, *start))
     }
 
     /// How many lines there are.
@@ -100,7 +100,7 @@ pub(crate) struct SourceLine<'t> {
 
 impl<'t> SourceLine<'t> {
     /// The line that begins after so many bytes of a text.
-    pub fn behind(text: &'t [u8], start: usize) -> SourceLine<'t> {
+    pub fn after(text: &'t [u8], start: usize) -> SourceLine<'t> {
         let rest = text.get(start..).unwrap_or(&[]);
         let (line, _) = cut(rest, b'\n');
         SourceLine {
@@ -124,8 +124,8 @@ impl<'t> SourceLine<'t> {
 
     /// What stands after its semicolon, without blanks at its ends; None if it has none.
     pub fn comment(&self) -> Option<Token<'t>> {
-        let (_, behind) = self.whole.cut(b';');
-        Some(trimmed(behind?))
+        let (_, after) = self.whole.cut(b';');
+        Some(trimmed(after?))
     }
 
     /// Whether it adds words of data.
@@ -137,8 +137,8 @@ impl<'t> SourceLine<'t> {
     /// What stands after its label and before its comment, without blanks at its ends.
     pub fn body(&self) -> Token<'t> {
         let (code, _) = self.whole.cut(b';');
-        let (front, behind) = code.cut(b':');
-        trimmed(behind.unwrap_or(front))
+        let (front, after) = code.cut(b':');
+        trimmed(after.unwrap_or(front))
     }
 
     /// Its body without the lookahead that it may begin with.
@@ -148,7 +148,7 @@ impl<'t> SourceLine<'t> {
             return body;
         }
         match body.bytes.iter().position(|byte| is_blank(*byte)) {
-            Some(place) => trimmed(body.behind(place)),
+            Some(place) => trimmed(body.after(place)),
             None => body,
         }
     }
@@ -173,7 +173,7 @@ impl<'t> SourceLine<'t> {
         let bar = before.bytes.iter().rposition(|byte| *byte == b'|')?;
         Some((
             trimmed(statement.before(bar)),
-            trimmed(statement.behind(bar.saturating_add(1))),
+            trimmed(statement.after(bar.saturating_add(1))),
         ))
     }
 }

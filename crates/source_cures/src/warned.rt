@@ -97,8 +97,8 @@ pub(crate) fn tested_on<'t>(line: &SourceLine<'t>, name: &str) -> Option<Token<'
         if head.bytes == plain.as_bytes() {
             return Some(head);
         }
-        let behind = line.whole.behind(end_of(operation));
-        let (_, following) = behind.cut(b'|');
+        let after = line.whole.after(end_of(operation));
+        let (_, following) = after.cut(b'|');
         column = following?.start;
     }
     None

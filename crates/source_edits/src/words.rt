@@ -105,7 +105,7 @@ fn past_lookahead<'t>(
         bytes: look.bytes,
         role: WordRole::Lookahead,
     })?;
-    Ok(trimmed(statement.behind(end)))
+    Ok(trimmed(statement.after(end)))
 }
 
 /// Adds the head of an operation or a directive, and its operands.
@@ -118,7 +118,7 @@ fn push_part<'t>(words: &mut Vec<LineWord<'t>>, part: Token<'t>) -> Result<(), A
         role: WordRole::Head,
     })?;
     let mut rest = if end < part.bytes.len() {
-        Some(part.behind(end))
+        Some(part.after(end))
     } else {
         None
     };
@@ -147,7 +147,7 @@ fn trimmed(piece: Token<'_>) -> Token<'_> {
         Some(front) => front,
         None => piece.bytes.len(),
     };
-    let rest = piece.behind(front);
+    let rest = piece.after(front);
     let mut end: usize = 0;
     for (place, byte) in rest.bytes.iter().enumerate() {
         if !is_blank(*byte) {

@@ -70,8 +70,66 @@ fn put_count_help(
     if put_address_help(&mut notes.help, reader, taking, head, &words)? {
         return Ok(());
     }
-    let lacks_commas = words.len() > pieces.len() && pieces.len() < taking.least;
-    put_statement(&mut notes.help, reader, taking, head, words, lacks_commas)
+    let opening = opening_of(notes.alloc(), reader, taking, pieces.len(), &words)?;
+    put_statement(&mut notes.help, reader, taking, head, words, opening)
+}
+
+/// What stands before a statement that has as many operands as it takes, of so many that were written, and these words. It is an
+/// example alone, if there are too few, and one of the words is no operand: the statement leaves that word out.
+fn opening_of(
+    alloc: Global,
+    reader: &Reader,
+    taking: Taking,
+    count: usize,
+    words: &[Token],
+) -> Result<&'static str, AllocError> {
+    if count >= taking.least {
+        return Ok("write ");
+    }
+    let lacks_commas = words.len() > count;
+    if are_operands(alloc, reader, taking.forms, words)? {
+        Ok(if lacks_commas {
+            "commas stand between operands: write "
+        } else {
+            "write "
+        })
+    } else {
+        Ok(if lacks_commas {
+            "commas stand between operands, as in "
+        } else {
+            "as in "
+        })
+    }
+}
+
+/// Whether each of the first words, as many as there are forms, may stand as an operand of one of these forms.
+fn are_operands(
+    alloc: Global,
+    reader: &Reader,
+    forms: &[OperandForm],
+    words: &[Token],
+) -> Result<bool, AllocError> {
+    for word in words.iter().take(forms.len()) {
+        if !is_operand(alloc, reader, forms, word.bytes)? {
+            return Ok(false);
+        }
+    }
+    Ok(true)
+}
+
+/// Whether a word may stand as an operand of one of these forms.
+fn is_operand(
+    alloc: Global,
+    reader: &Reader,
+    forms: &[OperandForm],
+    word: &[u8],
+) -> Result<bool, AllocError> {
+    for form in forms {
+        if reader.operand_fault(alloc, *form, word)?.is_none() {
+            return Ok(true);
+        }
+    }
+    Ok(false)
 }
 
 /// Adds a statement that has as many operands as it takes.
@@ -81,7 +139,7 @@ fn put_statement(
     taking: Taking,
     head: Token,
     words: Vec<Token>,
-    lacks_commas: bool,
+    opening: &'static str,
 ) -> Result<(), AllocError> {
     let label = label_to_go_to(help.alloc(), reader, taking, &words)?;
     match label {
@@ -90,8 +148,7 @@ fn put_statement(
             put_shown(help, label.bytes);
             help.put(" comes first, and then ");
         }
-        None if lacks_commas => help.put("commas stand between operands: write "),
-        None => help.put("write "),
+        None => help.put(opening),
     }
     let words = with_left_out(help.alloc(), reader, taking, &words, label.is_some())?;
     put_shown(help, head.bytes);

@@ -71,7 +71,7 @@ fn note_suffix(
     let name = operation.name();
     notes.words.put(name);
     notes.words.put(" has no suffix ");
-    put_shown(&mut notes.words, head.behind(name.len()).bytes);
+    put_shown(&mut notes.words, head.after(name.len()).bytes);
     put_suffixes(&mut notes.help, reader, name)?;
     notes.number(Fault::Unknown.number());
     notes.add(reader.spot(head))
@@ -133,7 +133,7 @@ fn put_operation_help(
         help.put(words);
         Ok(())
     } else {
-        put_meant_operation(help, reader, name.bytes, head.behind(name.bytes.len()))
+        put_meant_operation(help, reader, name.bytes, head.after(name.bytes.len()))
     }
 }
 

@@ -9,7 +9,7 @@ use std::alloc::{AllocError, Global};
 /// A piece without the blanks at its ends.
 pub(crate) fn trimmed<'t>(piece: Token<'t>) -> Token<'t> {
     let front = piece.bytes.iter().position(|b| !is_blank(*b));
-    let token = piece.behind(front.unwrap_or(piece.bytes.len()));
+    let token = piece.after(front.unwrap_or(piece.bytes.len()));
     let back = token.bytes.iter().rposition(|b| !is_blank(*b));
     match back {
         Some(last) => token.before(last.saturating_add(1)),
@@ -20,8 +20,8 @@ pub(crate) fn trimmed<'t>(piece: Token<'t>) -> Token<'t> {
 /// What stands before the first blank of a piece, and what stands after it, without blanks at its ends.
 pub(crate) fn split_head<'t>(piece: Token<'t>) -> (Token<'t>, Token<'t>) {
     match piece.bytes.iter().position(|b| is_blank(*b)) {
-        Some(place) => (piece.before(place), trimmed(piece.behind(place))),
-        None => (piece, piece.behind(piece.bytes.len())),
+        Some(place) => (piece.before(place), trimmed(piece.after(place))),
+        None => (piece, piece.after(piece.bytes.len())),
     }
 }
 

@@ -28,9 +28,9 @@ pub fn check_source(alloc: Global, text: &[u8]) -> Result<Vec<Message>, AllocErr
     let source = SourceFacts::of(alloc, text)?;
     let meaning = image_of(alloc, text)?;
     let mut messages = Vec::new(alloc);
-    tell_faults(alloc, &source, text, &meaning, &mut messages)?;
+    report_faults(alloc, &source, text, &meaning, &mut messages)?;
     let warnings = warnings_of(alloc, &source, text, meaning.as_ref().ok())?;
-    warnings.tell(Severity::Warning, &mut messages)?;
+    warnings.report(Severity::Warning, &mut messages)?;
     in_order(messages)
 }
 
@@ -52,7 +52,7 @@ fn image_of(alloc: Global, text: &[u8]) -> Result<Result<Image, AsmFault>, Alloc
 }
 
 /// Reports the faults of a text that is refused for one.
-fn tell_faults<'t>(
+fn report_faults<'t>(
     alloc: Global,
     source: &SourceFacts<'t>,
     text: &'t [u8],
@@ -65,7 +65,7 @@ fn tell_faults<'t>(
         return Ok(());
     };
     let faults = faults_of(alloc, source, text, *fault)?;
-    faults.tell(Severity::Error, messages)
+    faults.report(Severity::Error, messages)
 }
 
 /// The faults of a text of which this is one.

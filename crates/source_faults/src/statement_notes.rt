@@ -94,7 +94,7 @@ fn note_lookahead<'t>(
         return Ok(statement);
     }
     let (head, behind) = split_head(statement);
-    let number = head.behind(1).bytes;
+    let number = head.after(1).bytes;
     if let Some(fault) = reader.operand_fault(notes.alloc(), OperandForm::Lookahead, number)? {
         let help = "a blank comes after it";
         let kind = if behind.bytes.is_empty() {

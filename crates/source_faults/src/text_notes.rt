@@ -201,7 +201,7 @@ fn take_word(notes: &mut Notes, line: &CountedLine) -> Result<(), AllocError> {
 
 /// Notes that a byte of the line is above 7F.
 pub(crate) fn note_foreign(notes: &mut Notes, line: &CountedLine) -> Result<(), AllocError> {
-    let rest = Token::of_line(line.text.bytes).behind(length_of(line.text.bytes, true));
+    let rest = Token::of_line(line.text.bytes).after(length_of(line.text.bytes, true));
     let Some(byte) = rest.bytes.first() else {
         return Ok(());
     };

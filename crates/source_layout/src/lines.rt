@@ -72,7 +72,7 @@ fn push_comment(
     let column = if width == 0 {
         column_alone(line)
     } else {
-        column_behind(width)
+        column_after(width)
     };
     push_blanks(out, start, column)?;
     out.push(b';')?;
@@ -80,7 +80,7 @@ fn push_comment(
 }
 
 /// The column of a comment after so many bytes.
-fn column_behind(width: usize) -> usize {
+fn column_after(width: usize) -> usize {
     if width < COMMENT {
         COMMENT
     } else if width < SECOND_COMMENT {

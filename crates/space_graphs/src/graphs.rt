@@ -1,13 +1,14 @@
 //! The graph of a space.
 
 use crate::ahead::ends_ahead;
-use crate::legend::push_legend;
+use crate::legend::put_legend;
 use crate::paths::taken_edges;
 use crate::sets::groups_of;
-use crate::worlds::{push_steps, push_worlds};
+use crate::worlds::{put_steps, put_worlds};
 use lab_ends::EndWords;
 use lab_ends::ends_of_space::SpaceEnd;
 use lab_ends::space::Space;
+use plain_text::TextWriter;
 use std::alloc::{AllocError, Global};
 
 /// The most worlds that are drawn.
@@ -28,14 +29,38 @@ pub fn graph_of(
     ends: &[SpaceEnd],
     words: &[EndWords],
 ) -> Result<String, AllocError> {
+    let mut out = TextWriter::new(alloc);
+    out.put(SETTINGS);
+    put_nodes(alloc, &mut out, space, ends, words)?;
+    put_edges(alloc, &mut out, space, ends)?;
+    out.put("}\n");
+    out.take_text()
+}
+
+/// Adds the legend, and the worlds.
+fn put_nodes(
+    alloc: Global,
+    out: &mut TextWriter,
+    space: &Space<'_>,
+    ends: &[SpaceEnd],
+    words: &[EndWords],
+) -> Result<(), AllocError> {
     let ahead = ends_ahead(alloc, space, ends)?;
     let groups = groups_of(alloc, &ahead)?;
+    put_legend(out, ends, words, &ahead, &groups);
+    put_worlds(out, ends, &ahead, &groups);
+    Ok(())
+}
+
+/// Adds the steps.
+fn put_edges(
+    alloc: Global,
+    out: &mut TextWriter,
+    space: &Space<'_>,
+    ends: &[SpaceEnd],
+) -> Result<(), AllocError> {
     let edges = space.edges();
     let taken = taken_edges(alloc, edges, space.begin().len(), ends)?;
-    let mut out = String::from_str(alloc, SETTINGS)?;
-    push_legend(alloc, &mut out, ends, words, &ahead, &groups)?;
-    push_worlds(alloc, &mut out, ends, &ahead, &groups)?;
-    push_steps(&mut out, edges, &taken)?;
-    out.push_str("}\n")?;
-    Ok(out)
+    put_steps(out, edges, &taken);
+    Ok(())
 }

@@ -1,46 +1,52 @@
 //! What stands beside a graph: its ends in words, and its colours.
 
 use crate::sets::{Groups, colour, numbers_of};
-use crate::texts::{push_ahead, push_shown};
+use crate::texts::{put_ahead, put_shown};
 use lab_ends::EndWords;
 use lab_ends::ends_of_space::SpaceEnd;
-use std::alloc::{AllocError, Global};
+use plain_text::TextWriter;
 
 /// Adds the ends in words, and a colour for each group of worlds.
-pub(crate) fn push_legend(
-    alloc: Global,
-    out: &mut String,
+pub(crate) fn put_legend(
+    out: &mut TextWriter,
     ends: &[SpaceEnd],
     words: &[EndWords],
     ahead: &[Vec<usize>],
     groups: &Groups,
-) -> Result<(), AllocError> {
-    out.push_str("  subgraph cluster_legend {\n    label=\"ends\";\n    node [shape=box];\n")?;
+) {
+    out.put("  subgraph cluster_legend {\n    label=\"ends\";\n    node [shape=box];\n");
     for (index, (end, words)) in ends.iter().zip(words).enumerate() {
-        push_end(alloc, out, index.saturating_add(1), end, &words.text)?;
+        put_end(out, index.saturating_add(1), end, &words.text);
     }
     for (group, first) in groups.firsts.iter().enumerate() {
-        let fill = colour(group);
-        write!(out, "    g{group} [label=\"")?;
-        push_ahead(out, numbers_of(ahead, *first))?;
-        write!(out, "\", fillcolor=\"{fill}\"];\n")?;
+        put_group(out, group, numbers_of(ahead, *first));
     }
-    out.push_str("  }\n")
+    out.put("  }\n");
+}
+
+/// Adds the colour of a group, from whose worlds the ends of these numbers can still be reached.
+fn put_group(out: &mut TextWriter, group: usize, numbers: &[usize]) {
+    out.put("    g");
+    out.put_number(group as u64);
+    out.put(" [label=\"");
+    put_ahead(out, numbers);
+    out.put("\", fillcolor=\"");
+    out.put(colour(group));
+    out.put("\"];\n");
 }
 
 /// Adds an end of this number in words.
-fn push_end(
-    alloc: Global,
-    out: &mut String,
-    number: usize,
-    end: &SpaceEnd,
-    text: &str,
-) -> Result<(), AllocError> {
-    let kind = end.kind.name();
-    write!(out, "    e{number} [label=\"{number}: {kind}")?;
+fn put_end(out: &mut TextWriter, number: usize, end: &SpaceEnd, text: &str) {
+    let number = number as u64;
+    out.put("    e");
+    out.put_number(number);
+    out.put(" [label=\"");
+    out.put_number(number);
+    out.put(": ");
+    out.put(end.kind.name());
     if !text.is_empty() {
-        out.push_str("\\n")?;
-        push_shown(alloc, out, text)?;
+        out.put("\\n");
+        put_shown(out, text);
     }
-    out.push_str("\", fillcolor=\"white\"];\n")
+    out.put("\", fillcolor=\"white\"];\n");
 }

@@ -1,36 +1,43 @@
 //! Texts in the DOT language.
 
-use plain_text::plain;
-use std::alloc::{AllocError, Global};
+use plain_text::{TextWriter, plain};
 
 /// Adds a text as a part of a quoted string, shown as it is; a control byte as its escape.
-pub(crate) fn push_shown(alloc: Global, out: &mut String, text: &str) -> Result<(), AllocError> {
-    let text = plain(alloc, text)?;
+pub(crate) fn put_shown(out: &mut TextWriter, text: &str) {
+    match plain(out.alloc(), text) {
+        Ok(text) => put_letters(out, &text),
+        Err(_) => out.lack_piece(),
+    }
+}
+
+/// Adds the letters of a text without control bytes.
+fn put_letters(out: &mut TextWriter, text: &str) {
     for letter in text.chars() {
         match letter {
-            '"' => out.push_str("\\\"")?,
-            '\\' => out.push_str("\\\\")?,
-            '&' => out.push_str("&amp;")?,
-            _ => out.push(letter)?,
+            '"' => out.put("\\\""),
+            '\\' => out.put("\\\\"),
+            '&' => out.put("&amp;"),
+            _ => out.put_letter(letter),
         }
     }
-    Ok(())
 }
 
 /// Adds numbers, a space between them.
-pub(crate) fn push_numbers(out: &mut String, numbers: &[usize]) -> Result<(), AllocError> {
+fn put_numbers(out: &mut TextWriter, numbers: &[usize]) {
     for (index, number) in numbers.iter().enumerate() {
-        let space = if index == 0 { "" } else { " " };
-        write!(out, "{space}{number}")?;
+        if index > 0 {
+            out.put(" ");
+        }
+        out.put_number(*number as u64);
     }
-    Ok(())
 }
 
 /// Adds which ends can still be reached.
-pub(crate) fn push_ahead(out: &mut String, numbers: &[usize]) -> Result<(), AllocError> {
+pub(crate) fn put_ahead(out: &mut TextWriter, numbers: &[usize]) {
     if numbers.is_empty() {
-        return out.push_str("to no end that was found");
+        out.put("to no end that was found");
+    } else {
+        out.put("to ");
+        put_numbers(out, numbers);
     }
-    out.push_str("to ")?;
-    push_numbers(out, numbers)
 }

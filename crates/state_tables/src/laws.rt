@@ -17,7 +17,7 @@ ghost use Rattle.state_tables.specs.Targets.{AreTargets, IsLedTo};
 /// The numbers of a row name what stands in its state: the first one in what its memory differs from the image's words, each
 /// other one what a processor holds, and there each stream that is not idle what it holds. States of one image that have the
 /// same row are the same. Where a space is complete and has all edges, the targets of a stream are where its steps lead.
-pub fn rows_and_targets_tell_the_space()
+pub fn rows_and_targets_give_the_space()
     ensures memory { (image : ImageValue) (table : List (List ℕ)) (w : World) (row : List ℕ) → IsRow image table w row
         → slice_get table (slice_index_or row 0 0) ≡ Some (memory_numbers image w.memory) }
     ensures processor { (image : ImageValue) (table : List (List ℕ)) (w : World) (row : List ℕ) (p : ℕ)

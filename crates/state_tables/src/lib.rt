@@ -9,7 +9,7 @@ mod rows;
 mod targets;
 
 pub use depths::depths_of;
-pub use laws::rows_and_targets_tell_the_space;
+pub use laws::rows_and_targets_give_the_space;
 pub use number_sets::{NumberSets, sets_of};
 pub use rows::{StateRows, rows_of};
 pub use targets::targets_of;

@@ -77,7 +77,7 @@ pub enum Control {
     Reserve(u64),
     /// CREATE: this stream is to be started.
     Create(Child),
-    /// QUIT: the stream becomes idle, its reservation is given back.
+    /// QUIT: the stream becomes idle, its reservation is released.
     Quit,
     /// QUITP: the stream becomes idle, its reservation is kept.
     QuitKeep,

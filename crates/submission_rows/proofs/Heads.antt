@@ -1,8 +1,8 @@
 -- What rows begin with, one after the other.
 use Rattle.std.proofs.Common.{◌≡◌, ◌∙◌, ◌<◌, List, [], ◌∷◌, ◌++◌, length, sym, arith, append-nil}
 use Rattle.submission_rows.specs.Rows.{CaseHead, heads_of}
-use Rattle.grade_reports.specs.JudgementsTypes.Case.{Case}
-use Rattle.grade_reports.specs.JudgementsTypes.CaseJudgement.{CaseJudgement}
+use Rattle.grade_rows.specs.JudgementsTypes.Case.{Case}
+use Rattle.grade_rows.specs.JudgementsTypes.CaseJudgement.{CaseJudgement}
 
 -- no judgement is left
 pub at_end : (cs : List Case) (js : List CaseJudgement) (found all : List CaseHead) → length js < 1

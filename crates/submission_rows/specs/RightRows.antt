@@ -2,9 +2,9 @@
 use Rattle.std.specs.Prelude.{◌≡◌, ℕ, List}
 use Rattle.image_file.specs.ImageValue.{ImageValue}
 use Rattle.lab_requests.specs.declared.requests.GradeRequest.{GradeRequest}
-use Rattle.grade_reports.specs.Judgements.Shown.{limits_of}
-use Rattle.grade_reports.specs.Judgements.Verdicts.{AreRightCases}
-use Rattle.grade_reports.specs.JudgementsTypes.AskedJudging.{AskedJudging}
+use Rattle.grade_rows.specs.Judgements.Shown.{limits_of}
+use Rattle.grade_rows.specs.Judgements.Verdicts.{AreRightCases}
+use Rattle.grade_rows.specs.JudgementsTypes.AskedJudging.{AskedJudging}
 use Rattle.submission_rows.specs.declared.judging.Grading.{Grading}
 
 -- Submissions are judged so if this is requested: the searches go as far, but for their memory, which those that are judged

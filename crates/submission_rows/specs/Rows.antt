@@ -2,10 +2,10 @@
 use Rattle.std.specs.Prelude.{ℕ, Bool, List, [], ◌∷◌, map}
 use Rattle.end_kinds.specs.declared.statuses.Status.{Status}
 use Rattle.expectation_files.specs.Marks.{marks_in}
-use Rattle.grade_reports.specs.JudgementsTypes.Case.{Case}
-use Rattle.grade_reports.specs.JudgementsTypes.CaseJudgement.{CaseJudgement}
-use Rattle.grade_reports.specs.JudgementsTypes.VerdictKind.{VerdictKind}
-use Rattle.grade_reports.specs.declared.rows.CaseRow.{CaseRow}
+use Rattle.grade_rows.specs.JudgementsTypes.Case.{Case}
+use Rattle.grade_rows.specs.JudgementsTypes.CaseJudgement.{CaseJudgement}
+use Rattle.grade_rows.specs.JudgementsTypes.VerdictKind.{VerdictKind}
+use Rattle.grade_rows.specs.declared.rows.CaseRow.{CaseRow}
 
 -- what a row of a case begins with
 pub record CaseHead : Type 0 where

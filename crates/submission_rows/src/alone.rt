@@ -1,13 +1,15 @@
 //! One submission that is judged alone: its row, and what decides it as values.
 
 use crate::case_files::read_cases;
+use crate::given_images::image_given;
 use crate::judging::{Grading, judgement_on, named_cases};
 use crate::rows::row_of;
 use crate::submissions::{ReadSubmission, program_or_row, read_submission};
 use expectation_files::{FileFault, Requirements};
 use expectation_messages::parts::{Inputs, LabFault, Program};
-use grade_reports::GradeRow;
-use grade_reports::judges::{Case, SubmissionJudgement, image_by, required_by};
+use grade_rows::GradeRow;
+use grade_rows::judges::{Case, SubmissionJudgement, required_by};
+use image_file::Image;
 use lab_requests::GradeRequest;
 use search_texts::searches::Console;
 use std::alloc::{AllocError, Global};
@@ -48,31 +50,59 @@ pub fn judged_alone<X: Threads + Sync + Clock, F: Files, R: Read, E: Write>(
     console: &mut Console<'_, X, E>,
 ) -> Result<JudgedAlone, LabFault> {
     let cases = read_cases(alloc, inputs, request.cases)?;
-    let named = named_cases(&cases);
+    match program_at(alloc, inputs, request, path)? {
+        Ok(program) => judged_by_cases(rt, alloc, request, &cases, program, console),
+        Err(row) => Ok(JudgedAlone {
+            row,
+            cases: named_cases(&cases),
+            decided: None,
+        }),
+    }
+}
+
+/// The program of a path, or what is said of a submission that is none.
+fn program_at<F: Files, R: Read>(
+    alloc: Global,
+    inputs: &mut Inputs<'_, F, R>,
+    request: &GradeRequest,
+    path: &str,
+) -> Result<Result<Program, GradeRow>, LabFault> {
     let read = read_submission(alloc, inputs, path, request.refuses_links)?;
     let ReadSubmission { bytes, link: _link } = read;
-    let program = match bytes {
-        Ok(bytes) => program_or_row(alloc, bytes)?,
-        Err(row) => Err(row),
-    };
-    let program = match program {
-        Ok(program) => program,
-        Err(row) => {
-            return Ok(JudgedAlone {
-                row,
-                cases: named,
-                decided: None,
-            });
-        }
-    };
-    let grading = Grading::of(request, &[], &cases, 1);
-    let judgement = judgement_on(rt, alloc, &grading, &program, console)?;
+    match bytes {
+        Ok(bytes) => program_or_row(alloc, bytes),
+        Err(row) => Ok(Err(row)),
+    }
+}
+
+/// What is said of a program that is judged alone.
+fn judged_by_cases<X: Threads + Sync + Clock, E: Write>(
+    rt: &X,
+    alloc: Global,
+    request: &GradeRequest,
+    cases: &[Case],
+    program: Program,
+    console: &mut Console<'_, X, E>,
+) -> Result<JudgedAlone, LabFault> {
+    let grading = Grading::of(request, &[], cases, 1);
+    let judgement = known_alone(rt, alloc, &grading, &program, console)?;
     let row = row_of(alloc, &grading, &program, &judgement)?;
     Ok(JudgedAlone {
         row,
-        cases: named,
-        decided: decided_by(alloc, &cases, program, judgement)?,
+        cases: named_cases(cases),
+        decided: decided_by(alloc, cases, program, judgement)?,
     })
+}
+
+/// What is known of a program by all cases. It has no clause, so what [`judgement_on`] promises burdens no proof above it.
+fn known_alone<X: Threads + Sync + Clock, E: Write>(
+    rt: &X,
+    alloc: Global,
+    grading: &Grading<'_, '_>,
+    program: &Program,
+    console: &mut Console<'_, X, E>,
+) -> Result<SubmissionJudgement, LabFault> {
+    judgement_on(rt, alloc, grading, program, console)
 }
 
 /// What decides the judgement of a program.
@@ -85,20 +115,30 @@ fn decided_by(
     let Some(case) = cases.get(judgement.worst) else {
         return Ok(None);
     };
-    let given = image_by(alloc, &program.image, &program.text, case)?;
+    let given = image_given(alloc, &program, case)?;
     let Program { text, image } = program;
     let image = match given {
         Some(image) => image,
         None => image,
     };
-    let required = match required_by(alloc, case, &image, &text) {
-        Ok(required) => required,
-        Err(FileFault::NoMemory) => return Err(AllocError),
-        Err(FileFault::Line { .. } | FileFault::Empty) => Requirements::none(alloc),
-    };
+    let required = required_for(alloc, case, &image, &text)?;
     Ok(Some(DecidedByCase {
         program: Program { text, image },
         required,
         judgement,
     }))
+}
+
+/// What a case requires of a program with its words; nothing if the program lacks what a line names.
+fn required_for(
+    alloc: Global,
+    case: &Case,
+    image: &Image,
+    text: &[u8],
+) -> Result<Requirements, AllocError> {
+    match required_by(alloc, case, image, text) {
+        Ok(required) => Ok(required),
+        Err(FileFault::NoMemory) => Err(AllocError),
+        Err(FileFault::Line { .. } | FileFault::Empty) => Ok(Requirements::none(alloc)),
+    }
 }

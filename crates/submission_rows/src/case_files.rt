@@ -2,7 +2,7 @@
 
 use asked_programs::cells_of;
 use expectation_messages::parts::{Inputs, LabFault, RegularFile, folder_names, slash_after};
-use grade_reports::judges::Case;
+use grade_rows::judges::Case;
 use lab_requests::GradeCases;
 use named_files::shown_name;
 use std::alloc::{AllocError, Global};
@@ -13,21 +13,20 @@ use std::str;
 /// The most cases that a folder has.
 const MOST_CASES: usize = 10_000;
 
-/// The case of a file of expectations with these bytes, as the only one, without cells.
-fn case_of_file(alloc: Global, path: String, expected: Vec<u8>) -> Case {
+/// A case without a name, of which nothing was read.
+fn unread_case(alloc: Global) -> Case {
     Case {
         name: None,
-        path,
-        expected,
+        path: String::new(alloc),
+        expected: Vec::new(alloc),
         cells: None,
         given: Vec::new(alloc),
     }
 }
 
-/// Takes the cells of a file with these bytes into a case.
-fn take_cells(alloc: Global, case: &mut Case, path: &str, given: Vec<u8>) -> Result<(), LabFault> {
-    case.cells = Some(cells_of(alloc, path, &given)?);
-    case.given = given;
+/// Takes the cells of the file of a path, whose bytes a case has, into the case.
+fn take_cells(alloc: Global, path: &str, case: &mut Case) -> Result<(), LabFault> {
+    case.cells = Some(cells_of(alloc, path, &case.given)?);
     Ok(())
 }
 
@@ -67,13 +66,26 @@ fn case_given<F: Files, R: Read>(
     expected: &str,
     given: Option<&str>,
 ) -> Result<Case, LabFault> {
-    let bytes = inputs.read(alloc, expected)?;
-    let mut case = case_of_file(alloc, String::from_str(alloc, expected)?, bytes);
-    if let Some(path) = given {
-        let bytes = inputs.read(alloc, path)?;
-        take_cells(alloc, &mut case, path, bytes)?;
-    }
+    let mut case = unread_case(alloc);
+    read_given(alloc, inputs, expected, given, &mut case)?;
     Ok(case)
+}
+
+/// Reads a case of a file of expectations, and perhaps of one of cells.
+fn read_given<F: Files, R: Read>(
+    alloc: Global,
+    inputs: &mut Inputs<'_, F, R>,
+    expected: &str,
+    given: Option<&str>,
+    case: &mut Case,
+) -> Result<(), LabFault> {
+    case.expected = inputs.read(alloc, expected)?;
+    case.path = String::from_str(alloc, expected)?;
+    if let Some(path) = given {
+        case.given = inputs.read(alloc, path)?;
+        take_cells(alloc, path, case)?;
+    }
+    Ok(())
 }
 
 /// The cases of a folder.
@@ -97,15 +109,26 @@ fn case_of<F: Files, R: Read>(
     folder: &str,
     name: &str,
 ) -> Result<Case, LabFault> {
-    let slash = slash_after(folder);
-    let expected = format!(in alloc; "{folder}{slash}{name}.expect")?;
-    let bytes = read_in_folder(alloc, inputs, &expected)?;
-    let mut case = case_of_file(alloc, expected, bytes);
-    let data = format!(in alloc; "{folder}{slash}{name}.data")?;
-    let bytes = read_in_folder(alloc, inputs, &data)?;
-    take_cells(alloc, &mut case, &data, bytes)?;
+    let mut case = unread_case(alloc);
+    read_in(alloc, inputs, folder, name, &mut case)?;
     case.name = Some(String::from_str(alloc, name)?);
     Ok(case)
+}
+
+/// Reads a case from the two files of its name in a folder.
+fn read_in<F: Files, R: Read>(
+    alloc: Global,
+    inputs: &mut Inputs<'_, F, R>,
+    folder: &str,
+    name: &str,
+    case: &mut Case,
+) -> Result<(), LabFault> {
+    let slash = slash_after(folder);
+    case.path = format!(in alloc; "{folder}{slash}{name}.expect")?;
+    case.expected = read_in_folder(alloc, inputs, &case.path)?;
+    let data = format!(in alloc; "{folder}{slash}{name}.data")?;
+    case.given = read_in_folder(alloc, inputs, &data)?;
+    take_cells(alloc, &data, case)
 }
 
 /// The names of a folder's cases, in their order, one at least.

@@ -4,15 +4,17 @@ ghost use Rattle.std.specs.Prelude.{◌≡◌, IfOk};
 ghost use Rattle.expectation_files.specs.Marks.{marks_in};
 ghost use Rattle.submission_rows.specs.Rows.{CaseHead, head_in, head_of, heads_in, heads_of};
 
-use crate::case_words::{AbsentLine, CaseNotation, CaseText, add_absent};
+use crate::absent_words::{AbsentLine, add_absent};
+use crate::case_words::{CaseNotation, CaseText};
+use crate::given_images::image_given;
 use crate::judging::Grading;
 use crate::name_words::{add_lacking, add_not_given};
 use crate::report_lines::CaseLines;
 use crate::row_ends::add_ends;
 use expectation_files::{Requirements, case_marks};
 use expectation_messages::parts::Program;
-use grade_reports::judges::{Case, CaseJudgement, Known, Reason, image_by, required_by};
-use grade_reports::{CaseRow, CountedEnd};
+use grade_rows::judges::{Case, CaseJudgement, Known, Reason, required_by};
+use grade_rows::{CaseRow, CountedEnd};
 use image_file::Image;
 use lab_texts::{Notation, ProgramNames};
 use std::alloc::{AllocError, Global};
@@ -54,12 +56,12 @@ fn case_row(
     let shown = text_by_case(alloc, grading, case, program, judgement)?;
     let marks = case_marks(&case.expected);
     Ok(CaseRow {
-        name: name_of(alloc, case)?,
+        name: shown.name,
         is_hidden: marks.is_hidden,
         points: marks.points,
         kind: judgement.kind,
         known: known_as_asked(grading, judgement.known),
-        witness: judgement.witness(alloc)?,
+        witness: shown.witness,
         missed: shown.missed,
         words: shown.words,
         finding: shown.finding,
@@ -92,34 +94,30 @@ fn text_by_case(
     program: &Program,
     judgement: &CaseJudgement,
 ) -> Result<CaseText, AllocError> {
-    let given = image_by(alloc, &program.image, &program.text, case)?;
-    let image = given.as_ref().unwrap_or(&program.image);
     let mut text = CaseText::new(alloc);
-    if let Reason::Absent { line, fault } = &judgement.reason {
-        let absent = AbsentLine {
-            case,
-            line: *line,
-            fault: *fault,
-        };
-        add_absent(alloc, absent, image, &program.text, &mut text)?;
-        return Ok(text);
-    }
-    if let Reason::Lacking { name } = &judgement.reason {
-        add_lacking(alloc, case, *name, &program.text, &mut text)?;
-        return Ok(text);
-    }
-    if let Reason::NotGiven { line } = &judgement.reason {
-        add_not_given(alloc, case, *line, &mut text)?;
-        return Ok(text);
-    }
+    text.name = name_of(alloc, case)?;
+    text.witness = judgement.witness(alloc)?;
+    add_text_by_case(alloc, grading, case, program, judgement, &mut text)?;
+    Ok(text)
+}
+
+/// Writes it.
+fn add_text_by_case(
+    alloc: Global,
+    grading: &Grading<'_, '_>,
+    case: &Case,
+    program: &Program,
+    judgement: &CaseJudgement,
+    text: &mut CaseText,
+) -> Result<(), AllocError> {
+    let given = image_given(alloc, program, case)?;
     let shown = ShownCase {
         case,
-        image,
+        image: given.as_ref().unwrap_or(&program.image),
         text: &program.text,
         judgement,
     };
-    shown.add_text(alloc, grading, &mut text)?;
-    Ok(text)
+    shown.add_by_reason(alloc, grading, text)
 }
 
 /// Adds the ends of a program by a case, which were counted; none where it was not judged.
@@ -137,7 +135,7 @@ pub(crate) fn add_ends_by_case(
     {
         return Ok(());
     }
-    let given = image_by(alloc, &program.image, &program.text, case)?;
+    let given = image_given(alloc, program, case)?;
     let shown = ShownCase {
         case,
         image: given.as_ref().unwrap_or(&program.image),
@@ -157,6 +155,30 @@ struct ShownCase<'a> {
 }
 
 impl ShownCase<'_> {
+    /// Adds what decides, or what the submission lacks.
+    fn add_by_reason(
+        self,
+        alloc: Global,
+        grading: &Grading<'_, '_>,
+        text: &mut CaseText,
+    ) -> Result<(), AllocError> {
+        if let Reason::Absent { line, fault } = &self.judgement.reason {
+            let absent = AbsentLine {
+                case: self.case,
+                line: *line,
+                fault: *fault,
+            };
+            return add_absent(alloc, absent, self.image, self.text, text);
+        }
+        if let Reason::Lacking { name } = &self.judgement.reason {
+            return add_lacking(alloc, self.case, *name, self.text, text);
+        }
+        if let Reason::NotGiven { line } = &self.judgement.reason {
+            return add_not_given(alloc, self.case, *line, text);
+        }
+        self.add_text(alloc, grading, text)
+    }
+
     /// Adds what decides.
     fn add_text(
         self,

@@ -1,20 +1,19 @@
 //! What decides a verdict, in words.
 
-use crate::report_lines::{CaseLines, absent_line};
-use case_cells::{SpokenRange, spoken_words};
+use crate::report_lines::CaseLines;
+use case_cells::{SpokenRange, SpokenWords, spoken_words};
 use end_kinds::EndKind;
-use expectation_files::{LineFault, LineFaultKind, Requirements, line_of, word_of};
-use expectation_messages::fault_words;
+use expectation_files::Requirements;
 use expectation_messages::parts::made_by;
-use grade_reports::ReportLine;
-use grade_reports::judges::work::MissedWork;
-use grade_reports::judges::{
-    Case, CaseJudgement, Known, MissedLine, Reason, RunFlaw, ShownRun, VerdictKind,
+use grade_rows::ReportLine;
+use grade_rows::judges::work::MissedWork;
+use grade_rows::judges::{
+    CaseJudgement, Known, MissedLine, Reason, RunFlaw, ShownRun, VerdictKind, Witness,
 };
 use image_file::Image;
 use image_machines::by_room;
 use lab_requests::Maker;
-use lab_texts::{Notation, ProgramNames, TextWriter};
+use lab_texts::{Notation, TextWriter};
 use processor::Step;
 use search_texts::ends_in_words::ends_of_space::{SpaceEnd, SpaceEndKind};
 use search_texts::ends_in_words::{
@@ -23,7 +22,6 @@ use search_texts::ends_in_words::{
 use search_texts::searches::endless::seen_round;
 use search_texts::searches::endless::starving::Starving;
 use search_texts::{put_turns, put_waiting, work_words};
-use source_places::SourcePlaces;
 use std::alloc::{AllocError, Global};
 
 /// What is said of a line that no run shows.
@@ -35,6 +33,10 @@ const WAITS_LEFT_OPEN: &str = "it is not decided who can wait forever: explore s
 /// What decides a judgement by a case, in words.
 #[derive(Drop)]
 pub(crate) struct CaseText {
+    /// The name of the case; None where it is the only one.
+    pub name: Option<String>,
+    /// What shows it.
+    pub witness: Witness,
     /// The line that is not met, or by which the submission can't be judged.
     pub missed: Option<ReportLine>,
     /// Who was stopped, who waits and which words changed, or what the submission lacks.
@@ -47,6 +49,8 @@ impl CaseText {
     /// Nothing.
     pub(crate) fn new(alloc: Global) -> CaseText {
         CaseText {
+            name: None,
+            witness: Witness::None,
             missed: None,
             words: String::new(alloc),
             finding: String::new(alloc),
@@ -76,20 +80,19 @@ impl CaseNotation<'_, '_> {
         judgement: &CaseJudgement,
         text: &mut CaseText,
     ) -> Result<(), AllocError> {
-        let missed = judgement.missed();
+        let missed = missed_line(judgement);
         text.missed = self.lines.line_of(alloc, missed)?;
-        let words = missed_words(alloc, self.lines.required, missed)?;
         match &judgement.reason {
             Reason::Absent { .. } | Reason::Lacking { .. } | Reason::NotGiven { .. } => Ok(()),
             Reason::Looked => text.words.push_str(left_open(judgement)),
-            Reason::Run(run) => self.add_run(alloc, run, &words, text),
+            Reason::Run(run) => self.add_run(alloc, run, missed, text),
             Reason::End(place) => match judgement.ends.get(*place) {
-                Some(end) => self.add_end(alloc, end, &words, text),
+                Some(end) => self.add_end(alloc, end, missed, text),
                 None => Ok(()),
             },
             Reason::NoSchedule { .. } => text.words.push_str("no schedule has such a state"),
             Reason::NoRun { .. } => text.words.push_str("no run has such a state"),
-            Reason::Starved(shown) => self.add_starving(alloc, shown, &words, text),
+            Reason::Starved(shown) => self.add_starving(alloc, shown, missed, text),
             Reason::NoRunCan => text.words.push_str(NO_RUN_CAN),
             Reason::OpenWaits => text.words.push_str(why_open(judgement.known)),
             Reason::Rule(_) => self.add_rule(text),
@@ -102,24 +105,29 @@ impl CaseNotation<'_, '_> {
         self,
         alloc: Global,
         run: &ShownRun,
-        words: &[WordRange],
+        missed: Option<MissedLine>,
         text: &mut CaseText,
     ) -> Result<(), AllocError> {
         let maker = Maker::Random { seed: run.seed };
         let made = made_by(alloc, self.image, maker, self.most)?;
-        if run.flaw == RunFlaw::OutOfSteps {
-            text.words = going_text(alloc, self.notation, self.image, &made.steps)?;
-        }
-        let shown = state_text_of_run(
-            alloc,
-            self.notation,
-            self.image,
-            &made.steps,
-            &run.end.state,
-        )?;
-        push_after(&mut text.words, &shown)?;
-        text.finding = self.finding(alloc, &made.steps, words)?;
+        self.add_run_by(alloc, run, &made.steps, text)?;
+        text.finding = self.finding(alloc, &made.steps, missed)?;
         Ok(())
+    }
+
+    /// Writes where the run of a seed by these steps ends, and what it does if it has no end.
+    fn add_run_by(
+        self,
+        alloc: Global,
+        run: &ShownRun,
+        steps: &[Step],
+        text: &mut CaseText,
+    ) -> Result<(), AllocError> {
+        if run.flaw == RunFlaw::OutOfSteps {
+            text.words = going_text(alloc, self.notation, self.image, steps)?;
+        }
+        let shown = state_text_of_run(alloc, self.notation, self.image, steps, &run.end.state)?;
+        push_after(&mut text.words, &shown)
     }
 
     /// Writes what an end of all schedules shows: nothing beside the line where its worlds break one.
@@ -127,13 +135,13 @@ impl CaseNotation<'_, '_> {
         self,
         alloc: Global,
         end: &SpaceEnd,
-        words: &[WordRange],
+        missed: Option<MissedLine>,
         text: &mut CaseText,
     ) -> Result<(), AllocError> {
         if end.kind.is_end() {
             text.words = self.end_words(alloc, end)?;
         }
-        text.finding = self.finding(alloc, &end.schedule, words)?;
+        text.finding = self.finding(alloc, &end.schedule, missed)?;
         Ok(())
     }
 
@@ -142,17 +150,27 @@ impl CaseNotation<'_, '_> {
         self,
         alloc: Global,
         shown: &Starving,
-        words: &[WordRange],
+        missed: Option<MissedLine>,
         text: &mut CaseText,
     ) -> Result<(), AllocError> {
-        let round = seen_round(alloc, self.image, shown)?;
-        let mut out = TextWriter::new(alloc);
-        put_waiting(&mut out, self.notation.names, shown.stream, &round);
-        out.put(", again and again ");
-        put_turns(&mut out, &shown.round)?;
-        text.words = out.take_text()?;
-        text.finding = self.finding(alloc, &shown.stem, words)?;
+        text.words = self.waiting_words(alloc, shown)?;
+        text.finding = self.finding(alloc, &shown.stem, missed)?;
         Ok(())
+    }
+
+    /// Where a stream can wait forever and for what, and the round in which it does.
+    fn waiting_words(self, alloc: Global, shown: &Starving) -> Result<String, AllocError> {
+        let mut out = TextWriter::new(alloc);
+        self.put_round(&mut out, shown)?;
+        out.take_text()
+    }
+
+    /// Adds it.
+    fn put_round(self, out: &mut TextWriter, shown: &Starving) -> Result<(), AllocError> {
+        let round = seen_round(out.alloc(), self.image, shown)?;
+        put_waiting(out, self.notation.names, shown.stream, &round);
+        out.put(", again and again ");
+        put_turns(out, &shown.round)
     }
 
     /// What an end of all schedules shows: where the streams were stopped, or the steps of a cycle of one that spins.
@@ -172,16 +190,18 @@ impl CaseNotation<'_, '_> {
         Ok(words)
     }
 
-    /// The first finding of a run that is about one of these words, else the first of all; empty where it has none.
+    /// The first finding of a run that is about a word of the line that is missed, else the first of all; empty where it has
+    /// none.
     fn finding(
         self,
         alloc: Global,
         steps: &[Step],
-        words: &[WordRange],
+        missed: Option<MissedLine>,
     ) -> Result<String, AllocError> {
+        let words = missed_words(alloc, self.lines.required, missed)?;
         by_room!(
             self.image,
-            finding_of(alloc, self.notation, self.image, steps, words)
+            finding_of(alloc, self.notation, self.image, steps, &words)
         )
     }
 
@@ -208,6 +228,11 @@ impl CaseNotation<'_, '_> {
         }
         Ok(())
     }
+}
+
+/// The line that is not met. It has no clause, so that of `missed` burdens no proof above it.
+fn missed_line(judgement: &CaseJudgement) -> Option<MissedLine> {
+    judgement.missed()
 }
 
 /// What a verdict leaves open by all that was looked at, after a search that has all: who can wait forever.
@@ -247,29 +272,65 @@ fn missed_words(
     required: &Requirements,
     missed: Option<MissedLine>,
 ) -> Result<Vec<WordRange>, AllocError> {
-    let place = match missed {
-        Some(MissedLine::End(place)) => place,
-        Some(MissedLine::Claim(place)) => required.ends().len().saturating_add(place),
-        Some(MissedLine::Work(place)) => required
-            .ends()
-            .len()
-            .saturating_add(required.claims().len())
-            .saturating_add(place),
+    let mut words = Vec::new(alloc);
+    if let Some(place) = place_spoken(required, missed) {
+        add_words(alloc, required, place, &mut words)?;
+    }
+    Ok(words)
+}
+
+/// The place of a line among those that speak of words: the expectations of an end, then the claims, then the lines about who
+/// does the work; None of a line that speaks of none.
+fn place_spoken(required: &Requirements, missed: Option<MissedLine>) -> Option<usize> {
+    let ends = required.ends().len();
+    match missed {
+        Some(MissedLine::End(place)) => Some(place),
+        Some(MissedLine::Claim(place)) => Some(ends.saturating_add(place)),
+        Some(MissedLine::Work(place)) => Some(
+            ends.saturating_add(required.claims().len())
+                .saturating_add(place),
+        ),
         Some(
             MissedLine::Busy
             | MissedLine::Starved
             | MissedLine::Rule(_)
             | MissedLine::Absent { .. },
         )
-        | None => return Ok(Vec::new(alloc)),
-    };
-    let mut words = Vec::new(alloc);
-    if let Some(spoken) = spoken_words(alloc, required)?.get(place) {
-        for SpokenRange { first, last } in spoken.one.into_iter().chain(spoken.other) {
-            words.push(WordRange { first, last })?;
-        }
+        | None => None,
     }
-    Ok(words)
+}
+
+/// Adds the words of which the line of a place speaks.
+fn add_words(
+    alloc: Global,
+    required: &Requirements,
+    place: usize,
+    words: &mut Vec<WordRange>,
+) -> Result<(), AllocError> {
+    match spoken_at(alloc, required, place)? {
+        Some(SpokenWords { one, other }) => {
+            add_range(one, words)?;
+            add_range(other, words)
+        }
+        None => Ok(()),
+    }
+}
+
+/// The words of which the line of a place speaks; None where there is no such line.
+fn spoken_at(
+    alloc: Global,
+    required: &Requirements,
+    place: usize,
+) -> Result<Option<SpokenWords>, AllocError> {
+    Ok(spoken_words(alloc, required)?.get(place).copied())
+}
+
+/// Adds a range of words, where there is one.
+fn add_range(range: Option<SpokenRange>, words: &mut Vec<WordRange>) -> Result<(), AllocError> {
+    if let Some(SpokenRange { first, last }) = range {
+        words.push(WordRange { first, last })?;
+    }
+    Ok(())
 }
 
 /// Adds a text after what stands there, if both have something.
@@ -278,80 +339,4 @@ fn push_after(words: &mut String, text: &str) -> Result<(), AllocError> {
         words.push_str("; ")?;
     }
     words.push_str(text)
-}
-
-/// A line of a case that names what a submission lacks.
-#[derive(Clone, Copy)]
-pub(crate) struct AbsentLine<'a> {
-    /// The case.
-    pub case: &'a Case,
-    /// The number of the line, from 1.
-    pub line: usize,
-    /// What the submission lacks.
-    pub fault: LineFault,
-}
-
-/// Writes that a program with this image and text lacks what a line names.
-pub(crate) fn add_absent(
-    alloc: Global,
-    absent: AbsentLine<'_>,
-    image: &Image,
-    source: &[u8],
-    text: &mut CaseText,
-) -> Result<(), AllocError> {
-    let AbsentLine { case, line, fault } = absent;
-    let path = case.path.as_str();
-    let word = word_of(line_of(&case.expected, line), fault.word);
-    let own = ProgramNames::of(alloc, source)?;
-    let given = ProgramNames::of(alloc, &case.given)?;
-    let names = if names_words(&given) { &given } else { &own };
-    let reason = match missing_label(alloc, fault.kind, word, source)? {
-        Some(label) => format!(in alloc; "the program has no label {label}")?,
-        None => fault_words(alloc, fault.kind, word, image, names)?,
-    };
-    text.words = format!(in alloc; "{path}:{line}: {reason}")?;
-    text.missed = Some(absent_line(alloc, case, line)?);
-    Ok(())
-}
-
-/// The first label of a range of program words that a program of this text does not have, where that is its fault; None where
-/// it is a number past the program's words, or an address after one of its labels.
-fn missing_label(
-    alloc: Global,
-    kind: LineFaultKind,
-    range: &str,
-    text: &[u8],
-) -> Result<Option<String>, AllocError> {
-    if kind != LineFaultKind::Place {
-        return Ok(None);
-    }
-    let places = SourcePlaces::of(alloc, text)?;
-    for end in range.split('.') {
-        let label = match end.split_once('+') {
-            Some((label, _)) => label,
-            None => end,
-        };
-        if is_label(label) && !has_label(&places, label) {
-            return Ok(Some(String::from_str(alloc, label)?));
-        }
-    }
-    Ok(None)
-}
-
-/// Whether a text is a label, and no number.
-fn is_label(text: &str) -> bool {
-    text.starts_with(|letter: char| letter == '_' || letter.is_ascii_alphabetic())
-}
-
-/// Whether a program has a label.
-fn has_label(places: &SourcePlaces<'_>, label: &str) -> bool {
-    places
-        .labels()
-        .iter()
-        .any(|known| known.name == label.as_bytes())
-}
-
-/// Whether a text names some of its data words.
-fn names_words(names: &ProgramNames<'_>) -> bool {
-    names.data_lines().iter().any(|line| names.has_name((line.first as u64).saturating_mul(8)))
 }

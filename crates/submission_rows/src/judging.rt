@@ -1,19 +1,19 @@
 //! How submissions are judged, and what is said of one.
 
 ghost use Rattle.std.specs.Prelude.{◌≡◌, IfOk};
-ghost use Rattle.grade_reports.specs.Judgements.Shown.{limits_of};
+ghost use Rattle.grade_rows.specs.Judgements.Shown.{limits_of};
 ghost use Rattle.submission_rows.specs.RightRows.{IsAskedBy, IsRightAsGraded};
 
+use crate::given_images::image_given;
 use crate::memory_shares::{megabytes_in_all, megabytes_of_each};
 use crate::rows::{points_of, row_of};
 use end_kinds::Status;
 use expectation_messages::file_fault;
 use expectation_messages::parts::{LabFault, Program};
-use grade_reports::judges::{
-    AskedJudging, Case, JudgeFault, Submission, SubmissionJudgement, VerdictKind, image_by,
-    judged_submission,
+use grade_rows::judges::{
+    AskedJudging, Case, JudgeFault, Submission, SubmissionJudgement, VerdictKind, judged_submission,
 };
-use grade_reports::{GradeRow, ReportForm};
+use grade_rows::{GradeRow, ReportForm};
 use lab_requests::{Bounds, GradeRequest};
 use lab_texts::NumberStyle;
 use search_texts::search_fault;
@@ -65,7 +65,8 @@ impl<'a, 'r> Grading<'a, 'r> {
 }
 
 impl Grading<'_, '_> {
-    /// What is asked of each submission. The seeds of one are shared among the processors where submissions are not.
+    /// What is asked of each submission. Where there is only one, its seeds are shared among the processors. (To start threads
+    /// for each of a class costs more than its runs, where one at a time is asked for.)
     pub fn asked(&self) -> AskedJudging
         ensures requested { IsAskedBy self.now.request.now result }
         ensures all { result.counts_all ≡ self.now.request.now.counts_all }
@@ -77,7 +78,7 @@ impl Grading<'_, '_> {
             seeds: self.request.seeds,
             most: self.request.most,
             counts_all: self.request.counts_all,
-            is_spread: self.jobs <= 1,
+            is_spread: self.submissions.len() <= 1,
         }
     }
 
@@ -164,7 +165,15 @@ pub(crate) fn judgement_on<X: Threads + Sync, C: Clock, E: Write>(
         console,
     ) {
         Ok(judgement) => Ok(judgement),
-        Err(fault) => Err(judge_fault(alloc, grading.cases, program, fault)?),
+        Err(fault) => Err(fault_on(alloc, grading.cases, program, fault)),
+    }
+}
+
+/// Why a submission was not judged, as the command says it, unless memory is refused for that.
+fn fault_on(alloc: Global, cases: &[Case], program: &Program, fault: JudgeFault) -> LabFault {
+    match judge_fault(alloc, cases, program, fault) {
+        Ok(fault) => fault,
+        Err(_) => LabFault::NoMemory,
     }
 }
 
@@ -196,7 +205,7 @@ pub fn given_by(
     case: &Case,
     program: &Program,
 ) -> Result<Option<Program>, AllocError> {
-    match image_by(alloc, &program.image, &program.text, case)? {
+    match image_given(alloc, program, case)? {
         Some(image) => Ok(Some(Program {
             text: Vec::from_slice(alloc, &program.text)?,
             image,

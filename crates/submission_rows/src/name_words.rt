@@ -3,7 +3,7 @@
 use crate::case_words::CaseText;
 use crate::report_lines::absent_line;
 use asked_programs::lacking_words;
-use grade_reports::judges::Case;
+use grade_rows::judges::Case;
 use std::alloc::{AllocError, Global};
 
 /// Says that a submission of this text lacks the words of a name, which has this place among those of a case's

@@ -1,8 +1,8 @@
 //! Lines of a file of expectations, as reports have them.
 
 use expectation_files::{NEVER_BUSY, NEVER_STARVED, Requirements, WrittenLine, written_line};
-use grade_reports::ReportLine;
-use grade_reports::judges::{Case, MissedLine};
+use grade_rows::ReportLine;
+use grade_rows::judges::{Case, MissedLine};
 use std::alloc::{AllocError, Global};
 
 /// What a case requires of a program.

@@ -2,10 +2,10 @@
 
 use crate::case_words::CaseNotation;
 use end_kinds::EndKind;
-use grade_reports::CountedEnd;
-use grade_reports::judges::states::EndJudgement;
-use grade_reports::judges::{CaseJudgement, MissedLine, Witness, line_missed_by};
-use grade_reports::outcomes::SeedOutcome;
+use grade_rows::CountedEnd;
+use grade_rows::judges::states::EndJudgement;
+use grade_rows::judges::{CaseJudgement, MissedLine, Witness, line_missed_by};
+use grade_rows::outcomes::SeedOutcome;
 use search_texts::ends_in_words::ends_of_space::{SpaceEnd, SpaceEndKind};
 use search_texts::ends_in_words::{state_text, text_of_end};
 use std::alloc::{AllocError, Global};

@@ -7,8 +7,8 @@ use crate::case_rows::{add_ends_by_case, case_rows, known_as_asked};
 use crate::judging::Grading;
 use expectation_files::case_marks;
 use expectation_messages::parts::Program;
-use grade_reports::judges::{Case, SubmissionJudgement, VerdictKind, Witness};
-use grade_reports::{CaseRow, CountedEnd, GradeRow, ReportLine};
+use grade_rows::judges::{Case, Known, SubmissionJudgement, VerdictKind, Witness};
+use grade_rows::{CaseRow, CountedEnd, GradeRow, ReportLine};
 use std::alloc::{AllocError, Global};
 
 /// How many points there are for some cases together.
@@ -39,7 +39,7 @@ pub(crate) fn row_of(
     Ok(GradeRow {
         kind: judgement.kind,
         case: deciding.case,
-        known: known_as_asked(grading, judgement.known()),
+        known: known_of(grading, judgement),
         witness: deciding.witness,
         missed: deciding.missed,
         words: deciding.words,
@@ -50,6 +50,11 @@ pub(crate) fn row_of(
         page: None,
         status: judgement.status,
     })
+}
+
+/// What was looked at. It has no clause, so that of `known` burdens no proof above it.
+fn known_of(grading: &Grading<'_, '_>, judgement: &SubmissionJudgement) -> Known {
+    known_as_asked(grading, judgement.known())
 }
 
 /// What a row says of the case that decides.
@@ -73,21 +78,29 @@ fn deciding_text(
     judgement: &SubmissionJudgement,
     cases: &[CaseRow],
 ) -> Result<DecidingText, AllocError> {
-    match cases.get(judgement.worst) {
-        Some(case) if judgement.kind != VerdictKind::Right => Ok(DecidingText {
-            case: case.name.clone()?,
-            witness: case.witness.clone()?,
-            missed: case.missed.clone()?,
-            words: case.words.clone()?,
-            finding: case.finding.clone()?,
-        }),
-        Some(_) | None => Ok(DecidingText {
-            case: None,
-            witness: Witness::None,
-            missed: None,
-            words: String::new(alloc),
-            finding: String::new(alloc),
-        }),
+    let mut text = DecidingText {
+        case: None,
+        witness: Witness::None,
+        missed: None,
+        words: String::new(alloc),
+        finding: String::new(alloc),
+    };
+    if let Some(case) = cases.get(judgement.worst)
+        && judgement.kind != VerdictKind::Right
+    {
+        text.copy_of(case)?;
+    }
+    Ok(text)
+}
+
+impl DecidingText {
+    /// Copies what the row of a case says into it.
+    fn copy_of(&mut self, case: &CaseRow) -> Result<(), AllocError> {
+        self.case = case.name.clone()?;
+        self.witness = case.witness.clone()?;
+        self.missed = case.missed.clone()?;
+        self.words.push_str(&case.words)?;
+        self.finding.push_str(&case.finding)
     }
 }
 

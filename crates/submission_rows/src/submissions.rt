@@ -4,8 +4,8 @@ use expectation_messages::parts::{
     Inputs, LabFault, LinkOut, Program, ProgramFault, RegularFile, program_in,
 };
 use fault_messages::{Message, Severity};
-use grade_reports::judges::VerdictKind;
-use grade_reports::{GradeRow, SourcePosition};
+use grade_rows::judges::VerdictKind;
+use grade_rows::{GradeRow, SourcePosition};
 use std::alloc::{AllocError, Global};
 use std::io::Read;
 use std::rt::Files;

@@ -1,4 +1,4 @@
-//! What texts are made of: numbers, printed in a fixed width or in columns and read back; the parts before and behind a
+//! What texts are made of: numbers, printed in a fixed width or in columns and read back; the parts before and after a
 //! byte; lines; runs of equal things.
 #![tactic(auto)]
 

@@ -21,7 +21,7 @@ use stream_core::{Status, Stream};
 /// where it is, also where memory is refused.
 ///
 /// Worlds of one image have the same key, by one table or one that was extended since, exactly where they are the same
-/// when they are cleared so: `keys_tell_worlds_apart` is the law. Where all registers are named, all matter.
+/// when they are cleared so: `keys_distinguish_worlds` is the law. Where all registers are named, all matter.
 pub fn world_key<const S: usize>(
     alloc: Global,
     live: &LiveRegisters,

@@ -8,7 +8,7 @@ ghost use Rattle.world_keys.specs.WorldKeys.{key_of, IsKnown};
 
 /// Worlds of one image that have the same key are the same, and a key stays as it is when the table is extended.
 #[tactic(auto, using(crate::proofs::Worlds::same_world, crate::proofs::Worlds::key_kept, crate::proofs::Worlds::known_kept))]
-pub fn keys_tell_worlds_apart()
+pub fn keys_distinguish_worlds()
     ensures apart { (table : List (List ℕ)) (image : ImageValue) (one other : World)
         → IsKnown table image one → IsKnown table image other
         → key_of table image one ≡ key_of table image other → one ≡ other }

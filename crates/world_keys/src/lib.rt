@@ -14,6 +14,6 @@ mod tables;
 
 pub use dead_registers as registers;
 pub use keys::world_key;
-pub use laws::keys_tell_worlds_apart;
+pub use laws::keys_distinguish_worlds;
 pub use next_keys::{Change, mark_of, next_key};
 pub use tables::Table;

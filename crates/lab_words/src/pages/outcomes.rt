@@ -94,7 +94,8 @@ such a lock.
 = livelock
 Livelock: streams take steps forever, and none of them comes any further, as two that step aside for each other.
 
-What to do: mta_lab explore shows it as spinning. always, never and some in a file of --expect can claim what has to come.
+What to do: mta_lab explore says livelock below an endless loop in which no step changes a word. Where words change, always,
+never and some in a file of --expect can claim what has to come.
 
 = spinning
 Spinning: streams go on forever and nothing new happens, as a loop that polls a word that nobody changes.

@@ -130,7 +130,7 @@ const ENDING: [Call; 1] = [Call {
 
 /// Whether the engine runs the program of these processors, and reports to its gate just these calls for processor 0,
 /// and for processor 1.
-fn tells<R: AllocGlobal + Threads + Wait + Sync>(
+fn reports_just<R: AllocGlobal + Threads + Wait + Sync>(
     rt: &R,
     head: &str,
     zero: &[Call],
@@ -170,6 +170,6 @@ fn the_engine_hands_on_its_gate(rt: HostRuntime) {
             OF_ONE.as_slice(),
         ),
     ] {
-        assert!(rt; tells(&rt, head, zero, one) == Some(true));
+        assert!(rt; reports_just(&rt, head, zero, one) == Some(true));
     }
 }

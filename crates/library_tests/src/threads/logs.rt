@@ -260,7 +260,7 @@ const TOLD_ONCE_MORE: [Call; 14] = [
 ];
 
 #[test]
-fn a_gate_is_told_of_each_step_and_request_in_order(rt: HostRuntime) {
+fn a_gate_sees_each_step_and_request_in_order(rt: HostRuntime) {
     for (refuses, wanted) in [(0, TOLD.as_slice()), (2, TOLD_ONCE_MORE.as_slice())] {
         assert!(rt; has_log(&rt, refuses, wanted) == Some(true));
     }

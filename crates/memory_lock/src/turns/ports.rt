@@ -13,7 +13,7 @@ use std::marker::{Brand, Model, PhantomData};
 use std::sync::Wait;
 use tag_memory::{Reply, Request};
 
-/// A type that names one table. Of a port that was lent no more is known than its type and what `Port` tells, so the
+/// A type that names one table. Of a port that was lent no more is known than its type and what `Port` says, so the
 /// type has to say at which table its seat is.
 pub trait TableBrand {
     ghost use Rattle.atomic_table.specs.Seated.{TableId};

@@ -1,4 +1,4 @@
-//! The rule of the table, and what each step at it tells.
+//! The rule of the table, and what each step at it shows.
 
 use crate::turns::views::View;
 use atomic_table::{Join, Play, Seat, Shared, Split, Table, TableRule};
@@ -37,7 +37,7 @@ impl<'i> Play<Option<SharedMemory<'i>>, View> for Poll {
     ghost then = { IsPoll };
 }
 
-/// The next ticket is served, and the slot is given back.
+/// The next ticket is served, and the slot is released.
 pub struct Raise;
 
 impl<'i> Play<Option<SharedMemory<'i>>, View> for Raise {

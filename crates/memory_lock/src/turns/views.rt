@@ -4,7 +4,7 @@ use image_file::Image;
 use processor::{Asked, Entry};
 use std::collections::LinkedList;
 
-/// What a memory has behind it.
+/// What a memory has done so far.
 pub struct Past {
     /// The image whose memory it was at first.
     pub image: Image,

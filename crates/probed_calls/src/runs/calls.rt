@@ -1,7 +1,7 @@
 //! Calls of runs, sessions and engines, with their names in the code. Each is made of one program, and its answer
 //! compared.
 
-use crate::calls::tell;
+use crate::calls::print_lines;
 use crate::runs::{alternating, debugging, engines, kept, one_machine, sessions, threads, turns};
 use image_file::Image;
 use std::io;
@@ -34,7 +34,7 @@ pub fn make_runs<R: AllocGlobal + Clock + Print + Threads + Wait + Sync>(
             alternating::of_session(rt),
         ),
     ];
-    tell(rt, &lines)
+    print_lines(rt, &lines)
 }
 
 /// Makes those of the debugger.
@@ -48,7 +48,7 @@ pub fn make_sessions<R: AllocGlobal + Print>(rt: &R, image: &Image) -> io::Resul
         ),
         ("Session::command, 9,005 steps", kept::of_commands(alloc)),
     ];
-    tell(rt, &lines)
+    print_lines(rt, &lines)
 }
 
 /// Makes those of the commands' engines, and the one that takes every way, along two programs.
@@ -67,5 +67,5 @@ pub fn make_engines<R: AllocGlobal + Print + Threads + Wait + Sync>(
         ("one_machine", one_machine::of_program(alloc)),
         ("one_machine of Profile 2", one_machine::of_purge(alloc)),
     ];
-    tell(rt, &lines)
+    print_lines(rt, &lines)
 }

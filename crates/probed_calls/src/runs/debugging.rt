@@ -61,12 +61,12 @@ pub(crate) fn of_debug_engine(alloc: Global, image: &Image) -> Ended {
 fn answers(written: &[u8]) -> (usize, usize, &[u8]) {
     let (mut answered, mut refused, mut rest) = (0usize, 0usize, written);
     for answer in ANSWERS {
-        if let Some(behind) = rest.strip_prefix(answer.as_bytes()) {
+        if let Some(after) = rest.strip_prefix(answer.as_bytes()) {
             answered = answered.saturating_add(1);
-            rest = behind;
-        } else if let Some(behind) = rest.strip_prefix(REFUSED.as_bytes()) {
+            rest = after;
+        } else if let Some(after) = rest.strip_prefix(REFUSED.as_bytes()) {
             refused = refused.saturating_add(1);
-            rest = behind;
+            rest = after;
         } else {
             break;
         }

@@ -88,13 +88,13 @@ pub(crate) fn of_list_engine(alloc: Global, image: &Image) -> Ended {
 }
 
 /// What stands after these lines; none if they do not stand first.
-fn behind<'a>(text: &'a [u8], lines: &str) -> Option<&'a [u8]> {
+fn text_after<'a>(text: &'a [u8], lines: &str) -> Option<&'a [u8]> {
     text.strip_prefix(lines.as_bytes())
 }
 
 /// Whether a text is these lines, and after them what the program comes to.
 fn is_report(text: &[u8], lines: &str) -> bool {
-    behind(text, lines) == Some(END.as_bytes())
+    text_after(text, lines) == Some(END.as_bytes())
 }
 
 fn run_ended(alloc: Global, mut bytes: &[u8]) -> Ended {
@@ -102,7 +102,7 @@ fn run_ended(alloc: Global, mut bytes: &[u8]) -> Ended {
         return Ended::NotMade;
     };
     let done = run_engine(alloc, &mut bytes, &mut SCHEDULE.as_bytes(), &mut text);
-    match behind(&text, TRACE) {
+    match text_after(&text, TRACE) {
         Some(end) => ended(done, end, END.as_bytes()),
         None => ended(done, &text, b"a trace"),
     }

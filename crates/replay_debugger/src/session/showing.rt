@@ -77,7 +77,7 @@ fn words<const S: usize>(
     Ok(list)
 }
 
-/// The word so many words behind a byte address, with its own address.
+/// The word so many words after a byte address, with its own address.
 fn word_at<const S: usize>(machine: &Machine<S>, first: u64, index: u64) -> Option<(u64, Word)>
     requires { index < 64 }
     ensures { let address = first + 8 * index in

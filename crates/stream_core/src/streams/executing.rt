@@ -355,7 +355,7 @@ fn retries_after(op: MemoryOp, retries: u32) -> u32
     }
 }
 
-/// The pc that lies so many words behind the next one.
+/// The pc that lies so many words after the next one.
 fn skipped(pc: u32, words: i8) -> u32
     ensures { result ≡ skip_pc pc words }
 {

@@ -1,7 +1,7 @@
 -- What is left gives the worst of all.
 use Rattle.std.proofs.Common.{◌≡◌, drop}
 use Rattle.end_kinds.specs.declared.statuses.Status.TheVariants as status
-use Rattle.judgements.specs.ProgramSearches.Statuses.{worst}
+use Rattle.grade_rows.specs.Judgements.ProgramSearches.Statuses.{worst}
 use Rattle.grade_reports.specs.RowStatuses.{statuses_of}
 use Rattle.grade_reports.proofs.row_statuses.worst_status.Given as goal
 

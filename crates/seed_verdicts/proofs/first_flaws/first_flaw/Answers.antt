@@ -13,7 +13,7 @@ returns-in-Some-clause-judged g c =
       is_fair = c.in_ok-fair_length_of.ensures.is;
       told =
           first_flaw_at c.args.image.now c.args.expected.now c.args.claims.now fair seeds begin (begin + c.min.result)
-          c.in_ok-told.told.items c.in_ok-told.ensures.told c.loop-begin.invariant.right c.in-Some.place c.in-Some.flaw
+          c.in_ok-known.known.items c.in_ok-known.ensures.known c.loop-begin.invariant.right c.in-Some.place c.in-Some.flaw
           (omega arith) first.0 first.1;
     }
 
@@ -27,6 +27,6 @@ loop-begin-preserved g c =
       few = omega arith;
       right =
           all_right c.args.image.now c.args.expected.now c.args.claims.now c.in_ok-fair_length_of.field-0 c.args.seeds
-          begin (begin + c.min.result) c.in_ok-told.told.items c.in_ok-told.ensures.told c.loop-begin.invariant.right
+          begin (begin + c.min.result) c.in_ok-known.known.items c.in_ok-known.ensures.known c.loop-begin.invariant.right
           none;
     }

@@ -1,5 +1,5 @@
 use Rattle.std.proofs.Common.{ℕ, List, subst}
-use Rattle.grade_reports.specs.Judgements.Verdicts.{AreRightCases}
+use Rattle.grade_rows.specs.Judgements.Verdicts.{AreRightCases}
 use Rattle.submission_rows.proofs.judging.judgement_on.Goals as goal
 
 pub returns-in-Ok-clause-right : goal.returns-in-Ok-clause-right

@@ -17,6 +17,6 @@ invariant_of-self g c =
       first = start_other course new shared s.start c.requires.within same c.self.invariant.first;
       few = omega arith;
       each =
-          kept_other course new shared s.spacing c.drop_behind.new.kept.items c.requires.within same
-          (c.drop_behind.ensures.were_kept course s.spacing c.self.invariant.each) c.drop_behind.ensures.within;
+          kept_other course new shared s.spacing c.drop_after.new.kept.items c.requires.within same
+          (c.drop_after.ensures.were_kept course s.spacing c.self.invariant.each) c.drop_after.ensures.within;
     }

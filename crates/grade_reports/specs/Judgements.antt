@@ -1,3 +1,0 @@
--- Definitions of judgements that callers name, passed on.
-pub use Rattle.judgements.specs.Shown
-pub use Rattle.judgements.specs.Verdicts

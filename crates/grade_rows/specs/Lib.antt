@@ -1,0 +1,3 @@
+-- Of crates below, passed on to callers.
+pub mod Judgements
+pub mod JudgementsTypes

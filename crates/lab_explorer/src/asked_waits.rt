@@ -1,0 +1,92 @@
+//! Of which programs it is asked who can wait forever, and among which states.
+
+use crate::endless::is_spinning;
+use expectation_files::Requirements;
+use image_file::Image;
+use lab_requests::{Bounds, ExploreRequest};
+use processor::Step;
+use search_texts::parts::LabFault;
+use search_texts::search_fault;
+use search_texts::searches::endless::{EndlessWaits, MOST_STATES};
+use search_texts::searches::{Console, Explored, ProgramSearch, endless_waits_of, explore_program};
+use std::alloc::Global;
+use std::io::Write;
+use std::time::Clock;
+
+/// A program whose schedules are looked for.
+#[derive(Clone, Copy)]
+pub(crate) struct SearchedProgram<'a> {
+    /// Its image.
+    pub image: &'a Image,
+    /// The steps that all schedules begin with.
+    pub begin: &'a [Step],
+}
+
+/// Whether a search leaves open who can wait forever in a program with an endless loop: no line requires an answer.
+pub(crate) fn is_left_open(found: &Explored<'_>) -> bool {
+    found.waits.is_none() && found.ends.iter().any(|end| is_spinning(end))
+}
+
+/// Who can wait forever in a program of which this search was made: if it is asked, and in lines for people also if the
+/// program has an endless loop. None if it is not asked, or if a search of all states for it came to its bounds.
+pub(crate) fn waits_asked<C: Clock, E: Write>(
+    alloc: Global,
+    request: &ExploreRequest,
+    program: SearchedProgram<'_>,
+    found: &Explored<'_>,
+    console: &mut Console<'_, C, E>,
+) -> Result<Option<EndlessWaits>, LabFault> {
+    let is_of_loops = !request.shown.json && is_left_open(found);
+    if request.asks_who_waits || (is_of_loops && found.is_of_all_worlds) {
+        return Ok(Some(endless_waits_of(alloc, found)?));
+    }
+    if is_of_loops {
+        return waits_in_all(alloc, program, request.bounds, console);
+    }
+    Ok(None)
+}
+
+/// Who can wait forever in a program, by a search of all states within these bounds, and of no more than [`MOST_STATES`]; None
+/// if that is not complete.
+fn waits_in_all<C: Clock, E: Write>(
+    alloc: Global,
+    program: SearchedProgram<'_>,
+    bounds: Bounds,
+    console: &mut Console<'_, C, E>,
+) -> Result<Option<EndlessWaits>, LabFault> {
+    let nothing = Requirements::none(alloc);
+    let asked = ProgramSearch {
+        required: &nothing,
+        begin: program.begin,
+        bounds: Bounds {
+            worlds: bounds.worlds.min(MOST_STATES),
+            ..bounds
+        },
+        is_plain: true,
+    };
+    waits_by_search(alloc, program.image, &asked, console)
+}
+
+/// Who can wait forever in an image's program, by this search of all states; None if it is not complete.
+fn waits_by_search<C: Clock, E: Write>(
+    alloc: Global,
+    image: &Image,
+    asked: &ProgramSearch<'_>,
+    console: &mut Console<'_, C, E>,
+) -> Result<Option<EndlessWaits>, LabFault> {
+    match explore_program(alloc, image, asked, console) {
+        Ok(found) => waits_if_complete(alloc, &found),
+        Err(fault) => Err(search_fault(alloc, fault)?),
+    }
+}
+
+/// Who can wait forever by a search of all states; None if it is not complete.
+fn waits_if_complete(
+    alloc: Global,
+    found: &Explored<'_>,
+) -> Result<Option<EndlessWaits>, LabFault> {
+    if !found.is_complete {
+        return Ok(None);
+    }
+    Ok(Some(endless_waits_of(alloc, found)?))
+}

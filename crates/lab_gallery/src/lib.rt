@@ -1,0 +1,23 @@
+//! The command `gallery`: pages of all exercises and examples, and one page that leads to them (docs/PLAY.md, "A gallery"). Also
+//! the page of an exercise whose program is not right.
+#![tactic(auto)]
+
+mod cards;
+mod example_cards;
+mod exercise_cards;
+mod failing_pages;
+mod folder_lists;
+mod galleries;
+mod index;
+mod levels;
+mod parts;
+mod run_finders;
+mod sentences;
+mod shown_programs;
+mod shown_runs;
+mod writing;
+
+pub use exercise_files as files;
+pub use failing_pages::failing_page;
+pub use run_finders::RunFinder;
+pub use writing::write_gallery;
