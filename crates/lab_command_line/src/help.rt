@@ -131,10 +131,13 @@ word ADDRESS is|above|below VALUE, word ADDRESS full|empty, or at most N of P.S 
 above and below compare signed if VALUE has a sign (-1, +3), or if signed follows it (below 0
 signed). Else a word is a number from 0 on: -1 is above 5, and none is below 0.
 
---waiting also says who can wait forever. It explores all states, and looks for rounds: steps that
-come back to the same state, and so can be taken again and again. A round is fair by words if each
-stream that runs has a step in it, and each that is not always blocked completes one. A stream can
-wait forever if it is blocked at each of its steps in such a round.
+Of an endless loop it says what it is: a livelock, in which no step changes a word any more, or one
+in which a stream can wait forever, or one in which each stream goes on.
+
+--waiting says of every program who can wait forever. It explores all states, and looks for rounds:
+steps that come back to the same state, and so can be taken again and again. A round is fair by
+words if each stream that runs has a step in it, and each that is not always blocked completes one.
+A stream can wait forever if it is blocked at each of its steps in such a round.
 
 --keep FOLDER writes the schedule to each end as FOLDER/1.schedule and so on. --pages FOLDER writes
 the page of its run (mta_lab page --help), as FOLDER/1_deadlock.html and so on.

@@ -12,6 +12,7 @@ mod missed_words;
 mod originals;
 mod reporting;
 mod shortfall_words;
+mod shown_answers;
 mod telling;
 mod typed_keys;
 mod watching;

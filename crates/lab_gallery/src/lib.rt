@@ -8,10 +8,10 @@ mod exercise_cards;
 mod failing_pages;
 mod folder_lists;
 mod galleries;
+mod gallery_files;
 mod index;
 mod levels;
 mod parts;
-mod run_finders;
 mod sentences;
 mod shown_programs;
 mod shown_runs;
@@ -19,5 +19,5 @@ mod writing;
 
 pub use exercise_files as files;
 pub use failing_pages::failing_page;
-pub use run_finders::RunFinder;
+pub use gallery_files::{GalleryFiles, ShownExercise, WrongProgram, read_gallery};
 pub use writing::write_gallery;

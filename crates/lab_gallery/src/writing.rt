@@ -1,96 +1,60 @@
 //! The command `gallery`.
 
 use crate::cards::{Card, is_named};
-use crate::example_cards::{ADVICE, add_example};
+use crate::example_cards::add_example;
 use crate::exercise_cards::add_exercise;
-use crate::folder_lists::names_ending;
 use crate::galleries::Gallery;
+use crate::gallery_files::{GalleryFiles, ShownExercise};
 use crate::index::index_page;
-use crate::levels::LevelFile;
-use crate::run_finders::RunFinder;
 use exercise_files::parts::{CommandAnswer, Inputs, LabFault, Status, slash_after};
-use exercise_files::{Exercise, LeftOut, LookedFor, read_exercises, read_part};
+use exercise_files::{FailingRun, LeftOut, LookedFor};
 use lab_requests::GalleryRequest;
 use plain_text::TextWriter;
 use program_pages::searches::Console;
 use std::alloc::Global;
 use std::io::{Read, Write};
 use std::rt::Files;
-use std::thread::Threads;
 use std::time::Clock;
 
 /// Writes pages of all exercises and examples into a folder, and last the page that leads to them: if a write fails, this page
-/// is not written.
-pub fn write_gallery<X: Threads + Sync + Clock, F: Files, R: Read, E: Write, J: RunFinder>(
-    rt: &X,
+/// is not written. `found` has, for each exercise, the run by which its wrong program is not right.
+pub fn write_gallery<C: Clock, F: Files, R: Read, E: Write>(
     alloc: Global,
     inputs: &mut Inputs<'_, F, R>,
     request: &GalleryRequest,
-    finder: &J,
-    console: &mut Console<'_, X, E>,
+    files: &GalleryFiles,
+    found: &[Option<FailingRun>],
+    console: &mut Console<'_, C, E>,
 ) -> Result<CommandAnswer, LabFault> {
-    let file = read_levels(alloc, inputs, request.exercises)?;
-    let levels = file.levels(alloc)?;
+    let levels = files.levels.levels(alloc)?;
     let gallery = Gallery {
         folder: request.folder,
-        file: &file,
+        file: &files.levels,
         levels: &levels,
     };
-    write_found(rt, alloc, inputs, request, gallery, finder, console)
-}
-
-/// Finds what a gallery shows, and writes it.
-fn write_found<X: Threads + Sync + Clock, F: Files, R: Read, E: Write, J: RunFinder>(
-    rt: &X,
-    alloc: Global,
-    inputs: &mut Inputs<'_, F, R>,
-    request: &GalleryRequest,
-    gallery: Gallery<'_>,
-    finder: &J,
-    console: &mut Console<'_, X, E>,
-) -> Result<CommandAnswer, LabFault> {
-    let exercises = read_exercises(alloc, inputs, request.exercises)?;
-    let examples = names_ending(alloc, inputs.files, request.examples, ".asm", ADVICE)?;
     inputs.make_folder(alloc, request.folder)?;
-    let shown = ShownFiles {
-        exercises: &exercises,
-        folder: request.examples,
-        examples: &examples,
-    };
-    write_pages(rt, alloc, inputs, gallery, shown, finder, console)?;
-    answer_on(alloc, inputs.files, request, &exercises)
-}
-
-/// What a gallery shows.
-#[derive(Clone, Copy)]
-struct ShownFiles<'e> {
-    /// The exercises.
-    exercises: &'e [Exercise],
-    /// The folder of the examples.
-    folder: &'e str,
-    /// Their names.
-    examples: &'e [String],
-}
-
-/// Writes all pages.
-fn write_pages<X: Threads + Sync + Clock, F: Files, R: Read, E: Write, J: RunFinder>(
-    rt: &X,
-    alloc: Global,
-    inputs: &mut Inputs<'_, F, R>,
-    gallery: Gallery<'_>,
-    shown: ShownFiles<'_>,
-    finder: &J,
-    console: &mut Console<'_, X, E>,
-) -> Result<(), LabFault> {
     let mut cards: Vec<Card<'_>> = Vec::new(alloc);
-    for exercise in shown.exercises.iter() {
-        add_exercise(
-            rt, alloc, inputs, gallery, exercise, finder, console, &mut cards,
-        )?;
+    for (place, shown) in files.exercises.iter().enumerate() {
+        let failing = run_at(found, place);
+        add_exercise(alloc, inputs, gallery, shown, failing, console, &mut cards)?;
     }
-    add_examples(alloc, inputs, gallery, shown, console, &mut cards)?;
+    add_examples(
+        alloc,
+        inputs,
+        gallery,
+        request.examples,
+        &files.examples,
+        console,
+        &mut cards,
+    )?;
     let page = index_page(alloc, gallery, cards)?;
-    gallery.write(alloc, inputs, "index", ".html", &page)
+    gallery.write(alloc, inputs, "index", ".html", &page)?;
+    answer_on(alloc, inputs.files, request, &files.exercises)
+}
+
+/// The run at a place.
+fn run_at(found: &[Option<FailingRun>], place: usize) -> Option<&FailingRun> {
+    found.get(place)?.as_ref()
 }
 
 /// Adds the cards of all examples, whose pages are written.
@@ -98,17 +62,18 @@ fn add_examples<'e, C: Clock, F: Files, R: Read, E: Write>(
     alloc: Global,
     inputs: &mut Inputs<'_, F, R>,
     gallery: Gallery<'_>,
-    shown: ShownFiles<'e>,
+    folder: &str,
+    examples: &'e [String],
     console: &mut Console<'_, C, E>,
     cards: &mut Vec<Card<'e>>,
 ) -> Result<(), LabFault> {
-    for name in shown.examples.iter() {
+    for name in examples {
         if is_named(cards.as_slice(), name) {
             return Err(LabFault::Words(format!(in alloc;
                 "{name}: an exercise and an example have this name"
             )?));
         }
-        add_example(alloc, inputs, gallery, shown.folder, name, console, cards)?;
+        add_example(alloc, inputs, gallery, folder, name, console, cards)?;
     }
     Ok(())
 }
@@ -118,7 +83,7 @@ fn answer_on<F: Files>(
     alloc: Global,
     files: &F,
     request: &GalleryRequest,
-    exercises: &[Exercise],
+    exercises: &[ShownExercise],
 ) -> Result<CommandAnswer, LabFault> {
     let mut out = TextWriter::new(alloc);
     out.put_plain(request.folder);
@@ -135,7 +100,7 @@ fn names_left_out<F: Files>(
     alloc: Global,
     files: &F,
     request: &GalleryRequest,
-    exercises: &[Exercise],
+    exercises: &[ShownExercise],
 ) -> Result<Option<LabFault>, LabFault> {
     let mut left_out = LeftOut::none(alloc);
     add_left_out(alloc, files, request, exercises, &mut left_out)?;
@@ -147,12 +112,12 @@ fn add_left_out<F: Files>(
     alloc: Global,
     files: &F,
     request: &GalleryRequest,
-    exercises: &[Exercise],
+    exercises: &[ShownExercise],
     left_out: &mut LeftOut,
 ) -> Result<(), LabFault> {
     left_out.add(alloc, files, request.exercises, LookedFor::Exercises)?;
-    for exercise in exercises {
-        let wrong = exercise.file(alloc, "wrong")?;
+    for shown in exercises {
+        let wrong = shown.exercise.file(alloc, "wrong")?;
         left_out.add(alloc, files, &wrong, LookedFor::Ending(".asm"))?;
     }
     left_out.add(alloc, files, request.examples, LookedFor::Ending(".asm"))?;
@@ -162,19 +127,4 @@ fn add_left_out<F: Files>(
         request.examples,
         LookedFor::Ending(".schedule"),
     )
-}
-
-/// The file of the levels that lies beside the exercises; an empty one where there is none.
-fn read_levels<F: Files, R: Read>(
-    alloc: Global,
-    inputs: &mut Inputs<'_, F, R>,
-    exercises: &str,
-) -> Result<LevelFile, LabFault> {
-    let slash = slash_after(exercises);
-    let path = format!(in alloc; "{exercises}{slash}levels")?;
-    let bytes = match inputs.files.symlink_metadata(&path) {
-        Ok(_) => read_part(alloc, inputs, &path)?,
-        Err(_) => Vec::new(alloc),
-    };
-    Ok(LevelFile { path, bytes })
 }

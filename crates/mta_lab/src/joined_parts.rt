@@ -1,9 +1,10 @@
-//! What the crates of `exercise` and of `gallery` take from each other.
+//! What the crates of `exercise` and of `gallery` take from each other: neither stands on the other.
 
-use command_parts::{Inputs, LabFault};
+use command_parts::{CommandAnswer, Inputs, LabFault};
 use lab_exercises::{ExercisePages, failing_run};
-use lab_gallery::files::{Exercise, FailingRun, ShownFailing};
-use lab_gallery::{RunFinder, failing_page};
+use lab_gallery::files::{FailingRun, ShownFailing};
+use lab_gallery::{failing_page, read_gallery, write_gallery};
+use lab_requests::GalleryRequest;
 use program_searches::Console;
 use std::alloc::Global;
 use std::io::{Read, Write};
@@ -11,8 +12,7 @@ use std::rt::Files;
 use std::thread::Threads;
 use std::time::Clock;
 
-/// The pages of `exercise` as `lab_gallery` makes them, and the runs of `gallery` as `lab_exercises` finds them: so neither
-/// crate stands on the other.
+/// The pages of `exercise`, as `lab_gallery` makes them.
 #[derive(Clone, Copy)]
 pub(crate) struct JoinedParts;
 
@@ -28,16 +28,23 @@ impl ExercisePages for JoinedParts {
     }
 }
 
-impl RunFinder for JoinedParts {
-    fn failing_run<X: Threads + Sync + Clock, F: Files, R: Read, E: Write>(
-        &self,
-        rt: &X,
-        alloc: Global,
-        inputs: &mut Inputs<'_, F, R>,
-        exercise: &Exercise,
-        path: &str,
-        console: &mut Console<'_, X, E>,
-    ) -> Result<Option<FailingRun>, LabFault> {
-        failing_run(rt, alloc, inputs, exercise, path, console)
+/// Makes a gallery: which programs it shows, the run by which each is not right, and its pages.
+pub(crate) fn make_gallery<X: Threads + Sync + Clock, F: Files, R: Read, E: Write>(
+    rt: &X,
+    alloc: Global,
+    inputs: &mut Inputs<'_, F, R>,
+    request: &GalleryRequest,
+    console: &mut Console<'_, X, E>,
+) -> Result<CommandAnswer, LabFault> {
+    let files = read_gallery(alloc, inputs, request)?;
+    let mut found: Vec<Option<FailingRun>> = Vec::new(alloc);
+    for shown in files.exercises.iter() {
+        let exercise = &shown.exercise;
+        let failing = match &shown.wrong {
+            Some(wrong) => failing_run(rt, alloc, inputs, exercise, &wrong.path, console)?,
+            None => None,
+        };
+        found.push(failing)?;
     }
+    write_gallery(alloc, inputs, request, &files, &found, console)
 }

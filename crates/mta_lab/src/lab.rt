@@ -1,6 +1,6 @@
 //! The program, from its command line to its status.
 
-use crate::joined_parts::JoinedParts;
+use crate::joined_parts::{JoinedParts, make_gallery};
 use crate::painting::Painting;
 use command_parts::{CommandAnswer, Inputs, LabFault, Status, written};
 use lab_adapter::adapt;
@@ -9,7 +9,6 @@ use lab_command_line::read_lab_command;
 use lab_debugger::{Screen, debug};
 use lab_exercises::{exercise, watch_exercise};
 use lab_explorer::show_every_end;
-use lab_gallery::write_gallery;
 use lab_grades::{grade, merge};
 use lab_language::serve_language;
 use lab_pages::{write_page, write_picture, write_play_page};
@@ -284,25 +283,13 @@ fn answer_to<X: Threads + Wait + Sync + Clock, F: Files, R: Read, W: Write, E: W
         LabCommand::Explore(request) => show_every_end(alloc, inputs, request, console),
         LabCommand::Grade(request) => grade(rt, alloc, inputs, request, printer, console),
         LabCommand::Merge(request) => merge(alloc, inputs, request, printer),
-        LabCommand::Exercise(request) => exercise(
-            rt,
-            alloc,
-            inputs,
-            request,
-            &JoinedParts,
-            console,
-        ),
+        LabCommand::Exercise(request) => {
+            exercise(rt, alloc, inputs, request, &JoinedParts, console)
+        }
         LabCommand::Page(request) => write_page(alloc, inputs, request),
         LabCommand::Picture(request) => write_picture(alloc, inputs, request),
         LabCommand::Play(request) => write_play_page(alloc, inputs, request, console),
-        LabCommand::Gallery(request) => write_gallery(
-            rt,
-            alloc,
-            inputs,
-            request,
-            &JoinedParts,
-            console,
-        ),
+        LabCommand::Gallery(request) => make_gallery(rt, alloc, inputs, request, console),
         LabCommand::Explain { words } => explain(alloc, words),
         LabCommand::Word { words } => show_word(alloc, words),
         LabCommand::LayOut(request) => lay_out(alloc, inputs, request),
