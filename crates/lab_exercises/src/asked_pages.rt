@@ -1,6 +1,6 @@
 //! The page that is asked for of a program that is not right.
 
-use crate::advice::steps_of;
+use crate::mistake_runs::mistake_run;
 use crate::reporting::AskedExercise;
 use exercise_advice::judges::Witness;
 use exercise_advice::searches::Console;
@@ -12,8 +12,8 @@ use std::alloc::{AllocError, Global};
 use std::io::{Read, Write};
 use std::rt::Files;
 use std::time::Clock;
+use submission_rows::JudgedAlone;
 use submission_rows::reports::GradeRow;
-use submission_rows::{DecidedByCase, JudgedAlone};
 
 /// Makes pages of exercises: this crate says which run a page is of, and knows nothing of pages.
 pub trait ExercisePages {
@@ -67,14 +67,14 @@ fn page_of<C: Clock, E: Write, P: ExercisePages>(
     };
     let row = &judged.row;
     let called = name_of(alloc, exercise, row)?;
-    let steps = steps_of(alloc, &decided.program.image, &row.witness)?;
+    let run = mistake_run(alloc, decided, row)?;
     let shown = ShownFailing {
         called: &called,
         program: &decided.program,
         required: &decided.required,
         has_run: !matches!(&row.witness, Witness::None),
-        steps: &steps,
-        missed: missed_line(decided, row),
+        steps: &run.steps,
+        missed: run.missed_line(),
     };
     pages.failing_page(alloc, shown, is_of_all, console)
 }
@@ -85,15 +85,6 @@ fn name_of(alloc: Global, exercise: &Exercise, row: &GradeRow) -> Result<String,
     match &row.case {
         Some(case) => format!(in alloc; "{title}, case {case}"),
         None => String::from_str(alloc, title),
-    }
-}
-
-/// The line that the run misses, if one says that it is not right.
-pub(crate) fn missed_line<'r>(decided: &DecidedByCase, row: &'r GradeRow) -> Option<&'r str> {
-    let case = row.cases.get(decided.judgement.worst)?;
-    match &case.missed {
-        Some(line) => Some(line.text.as_str()),
-        None => None,
     }
 }
 

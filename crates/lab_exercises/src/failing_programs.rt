@@ -1,12 +1,11 @@
 //! Programs that are not right, with the run that shows it.
 
-use crate::advice::steps_of;
-use crate::asked_pages::missed_line;
 use crate::judging::{THOROUGH, judge_file};
+use crate::mistake_runs::{MistakeRun, mistake_run};
 use exercise_advice::searches::Console;
 use exercise_files::parts::{Inputs, LabFault};
 use exercise_files::{Exercise, FailingRun};
-use std::alloc::{AllocError, Global};
+use std::alloc::Global;
 use std::io::{Read, Write};
 use std::rt::Files;
 use std::thread::Threads;
@@ -42,11 +41,10 @@ fn run_shown(
     decided: DecidedByCase,
     row: &GradeRow,
 ) -> Result<Option<FailingRun>, LabFault> {
-    let steps = steps_of(alloc, &decided.program.image, &row.witness)?;
+    let MistakeRun { steps, missed } = mistake_run(alloc, &decided, row)?;
     if steps.is_empty() {
         return Ok(None);
     }
-    let missed = missed_copy(alloc, &decided, row)?;
     let DecidedByCase {
         program,
         required,
@@ -58,16 +56,4 @@ fn run_shown(
         steps,
         missed,
     }))
-}
-
-/// A copy of the line that the run misses, if one says that it is not right.
-fn missed_copy(
-    alloc: Global,
-    decided: &DecidedByCase,
-    row: &GradeRow,
-) -> Result<Option<String>, AllocError> {
-    match missed_line(decided, row) {
-        Some(line) => Ok(Some(String::from_str(alloc, line)?)),
-        None => Ok(None),
-    }
 }

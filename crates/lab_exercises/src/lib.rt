@@ -9,6 +9,7 @@ mod hints;
 mod judging;
 mod listing;
 mod missed_words;
+mod mistake_runs;
 mod originals;
 mod reporting;
 mod shortfall_words;
