@@ -15,6 +15,7 @@ import checks
 import table
 import tool
 from of_lab import lab
+from of_pages import run_in
 from table import unescaped
 
 EXERCISES = os.path.join(table.ROOT, "exercises")
@@ -340,6 +341,28 @@ def writes_page(option, texts):
             (said.status, said.out, said.err, [text in page for text in texts]))
 
 
+def turns_in(text):
+    """The streams of the steps of a schedule as `grade` shows it, each as processor and stream."""
+    turns = [map(int, turn.split()) for turn in text.split(", ")]
+    return [(processor, stream) for processor, stream, steps in turns for _ in range(steps)]
+
+
+def goes_round():
+    """The page of a program by which a stream can wait forever: its run goes once through the round that `grade` shows."""
+    with copied("27_turnstile") as folder:
+        _, why, _ = row_of(folder, "27_turnstile", THOROUGH)
+        lab("exercise", "27", "--page", "out.html", folder=folder)
+        with open(os.path.join(folder, "out.html"), encoding="utf-8") as file:
+            run = run_in(file.read())
+    shown = r"schedule ([\d ,]+): .*?: (\S+) can wait forever .* again and again ([\d ,]+)$"
+    stem, stream, turns = re.search(shown, why).groups()
+    around = turns_in(turns)
+    missed = (f"never starved: the last {len(around)} steps can come again and again, and {stream} is blocked at each step "
+              "of its own")
+    return ((turns_in(stem) + around, False, missed),
+            ([(step["p"], step["s"]) for step in run["steps"]], run["expected"], run["missed"]))
+
+
 def no_page():
     """Of a right program no run goes wrong; but the page of all schedules is written."""
     with copied("01_hand_over") as folder:
@@ -443,6 +466,7 @@ def command():
         yield f"{exercise} by its name", lambda exercise=exercise: by_name(exercise)
     yield "a page", lambda: writes_page("--page", ["Hand over one number, case ", "the schedule that decides"])
     yield "a page of all schedules", lambda: writes_page("--play", ["Hand over one number, case ", "you are the scheduler"])
+    yield "a page with a round", goes_round
     yield "no page of a right program", no_page
     yield "a reset", resets
     yield "--watch", watches
