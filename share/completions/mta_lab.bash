@@ -72,7 +72,9 @@ _mta_lab_value() {
     'check '[0-9]*) echo 'files .asm .image .schedule .expect' ;;
     'fmt '[0-9]* | 'asm 1') echo 'files .asm' ;;
     'schedule 1') echo 'words rounds fair random' ;;
-    'exercise 1') echo 'words 1 2 3 4 5 6 7 8 9 10 11 12 13 14 15 16 17 18 19 20 21 22 23 24 25 26 27 28 29' ;;
+    'exercise 1')
+      echo 'words 1 2 3 4 5 6 7 8 9 10 11 12 13 14 15 16 17 18 19 20 21 22 23 24 25 26 27 28 29 30 31'
+      ;;
     'explain 1')
       echo 'words .N normal .F future .S sync .T test full empty full/empty r0 t0 SSW status pointer ADD SUB MUL AND
         OR XOR ANDN SHL SHR SAR TALLY LTS LTU PTR stream processor schedule seed state race lost_update lost

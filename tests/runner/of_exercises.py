@@ -188,6 +188,8 @@ TOLD = [
     ("13_trap_handler", "solution.asm", None), ("26_barbershop", "solution.asm", None),
     ("27_turnstile", "start.asm", "after this run a stream can wait forever, and none ever should: never starved"),
     ("29_both_forks", "solution.asm", None),
+    ("30_leaders_and_followers", "start.asm", "[48] should be equal to [32] - 10, which is 1, and is 2"),
+    ("31_search_insert_delete", "solution.asm", None), ("31_search_insert_delete", "wrong/no_work.asm", None),
     ("03_lock", " .entry go\n .data 0\ngo: QUITE\n", None), ("03_lock", None, None),
 ]
 
