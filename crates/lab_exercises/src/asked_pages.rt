@@ -1,6 +1,6 @@
 //! The page that is asked for of a program that is not right.
 
-use crate::mistake_runs::mistake_run;
+use crate::mistake_runs::{MistakeRun, mistake_run};
 use crate::reporting::AskedExercise;
 use exercise_advice::judges::Witness;
 use exercise_advice::searches::Console;
@@ -12,8 +12,8 @@ use std::alloc::{AllocError, Global};
 use std::io::{Read, Write};
 use std::rt::Files;
 use std::time::Clock;
-use submission_rows::JudgedAlone;
 use submission_rows::reports::GradeRow;
+use submission_rows::{DecidedByCase, JudgedAlone};
 
 /// Makes pages of exercises: this crate says which run a page is of, and knows nothing of pages.
 pub trait ExercisePages {
@@ -68,15 +68,26 @@ fn page_of<C: Clock, E: Write, P: ExercisePages>(
     let row = &judged.row;
     let called = name_of(alloc, exercise, row)?;
     let run = mistake_run(alloc, decided, row)?;
-    let shown = ShownFailing {
-        called: &called,
+    let has_run = !matches!(&row.witness, Witness::None);
+    let shown = shown_run(&called, decided, &run, has_run);
+    pages.failing_page(alloc, shown, is_of_all, console)
+}
+
+/// A program that is called so, as a page of this run shows it.
+fn shown_run<'s>(
+    called: &'s str,
+    decided: &'s DecidedByCase,
+    run: &'s MistakeRun,
+    has_run: bool,
+) -> ShownFailing<'s> {
+    ShownFailing {
+        called,
         program: &decided.program,
         required: &decided.required,
-        has_run: !matches!(&row.witness, Witness::None),
+        has_run,
         steps: &run.steps,
         missed: run.missed_line(),
-    };
-    pages.failing_page(alloc, shown, is_of_all, console)
+    }
 }
 
 /// What a page calls the program: the title of the exercise, and the case that decides.
