@@ -23,9 +23,9 @@ LEVELS = """# the levels of these cases
 03_lock/keeps_the_lock deadlock: Keep the lock.
 three_philosophers deadlock: Let all three wait.
 """
-# of the examples: the schedule that is shown, and whether it goes wrong
-SHOWN = {"limited_wait": ("limited_wait", True), "lock": ("lock.lost_update", True),
-         "three_philosophers": ("three_philosophers.deadlock", True)}
+# of the examples: the schedule that is shown, and whether it is said to go wrong, which nothing says of an example
+SHOWN = {"limited_wait": ("limited_wait", False), "lock": ("lock.lost_update", False),
+         "three_philosophers": ("three_philosophers.deadlock", False)}
 # the first sentence of each
 TEACHES = {
     "01_hand_over": None, "03_lock": "Two processors change one number.",
@@ -146,6 +146,7 @@ def folders():
             (said.status, said.err)
     with folder_of() as folder:
         os.makedirs(os.path.join(folder, "made", "lock.play.html"))
+        tool.write(os.path.join(folder, "made", "index.html"), b"of an earlier call")
         said = lab("gallery", "made", folder=folder)
         yield "a page that can't be written", (1, b"mta_lab: made/lock.play.html: ", False), \
             (said.status, said.err[:30], os.path.exists(os.path.join(folder, "made", "index.html")))
@@ -154,11 +155,17 @@ def folders():
         said = lab("gallery", "made", folder=folder)
         yield "one name twice", (1, b"mta_lab: 03_lock: an exercise and an example have this name\n"), (said.status, said.err)
     with folder_of() as folder:
+        shutil.rmtree(os.path.join(folder, "exercises", "03_lock", "wrong"))
+        tool.write(os.path.join(folder, "exercises", "levels"), b"")
+        said = lab("gallery", "made", folder=folder)
+        cards = [card["name"] for card in gallery_in(folder)["cards"]]
+        yield "no folder of wrong programs", (0, False), (said.status, "03_lock" in cards)
+    with folder_of() as folder:
         tool.write(os.path.join(folder, "exercises", "01_hand_over", "wrong", "a_first.asm"),
                    text_of("01_hand_over", "solution.asm").encode())
         said = lab("gallery", "made", folder=folder)
         yield "a wrong program that is right", \
-            (1, b"mta_lab: exercises/01_hand_over/wrong/a_first.asm: no run of it goes wrong, so it has no card\n"), \
+            (1, b"mta_lab: exercises/01_hand_over/wrong/a_first.asm: no run shows that it is wrong, so it has no card\n"), \
             (said.status, said.err)
 
 

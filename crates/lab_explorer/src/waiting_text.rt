@@ -39,7 +39,7 @@ pub(crate) fn push_waits_lines(
             }
             put_undecided(&mut out, &answer.undecided);
             if !waiting.waits.is_nobody() {
-                put_going(&mut out, waiting.going);
+                put_going(&mut out, waiting.going, waiting.begin);
             }
         }
     }
@@ -55,8 +55,8 @@ fn put_undecided(out: &mut TextWriter, streams: &[Step]) {
     }
 }
 
-/// Adds the streams of endless loops that go on in every round, where some are.
-fn put_going(out: &mut TextWriter, streams: &[Step]) {
+/// Adds the streams of endless loops that go on in every round, where some are, of schedules that all begin with so many steps.
+fn put_going(out: &mut TextWriter, streams: &[Step], begin: usize) {
     if streams.is_empty() {
         return;
     }
@@ -72,8 +72,12 @@ fn put_going(out: &mut TextWriter, streams: &[Step]) {
         });
     }
     out.put(match streams.len() {
-        1 => " goes on in every round in which it runs\n",
-        _ => " go on in every round in which they run\n",
+        1 => " goes on in every round in which it runs",
+        _ => " go on in every round in which they run",
+    });
+    out.put(match begin {
+        0 => "\n",
+        _ => ", by a schedule that begins so\n",
     });
 }
 

@@ -34,7 +34,7 @@ pub(crate) struct CardHead<'e, 's> {
     pub teaches: &'s str,
     /// Which wrong program of an exercise is shown.
     pub program: Option<&'s str>,
-    /// Whether the run that it shows goes wrong.
+    /// Whether the run that it shows goes wrong; of an example nothing says that.
     pub fails: bool,
 }
 

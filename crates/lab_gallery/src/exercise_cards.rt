@@ -95,8 +95,11 @@ fn verdict_of(failing: &FailingRun) -> RunVerdict<'_> {
     RunVerdict::NotExpected { missed }
 }
 
-/// What is said of a wrong program that is right, or is no program.
+/// What is said of a wrong program of which no run shows that it is wrong: it is right, or no program, or wrong by a line of
+/// which no run decides.
 fn not_failing(alloc: Global, path: &str) -> Result<LabFault, AllocError> {
     let path = plain(alloc, path)?;
-    Ok(LabFault::Words(format!(in alloc; "{path}: no run of it goes wrong, so it has no card")?))
+    Ok(LabFault::Words(format!(in alloc;
+        "{path}: no run shows that it is wrong, so it has no card"
+    )?))
 }

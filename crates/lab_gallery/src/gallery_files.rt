@@ -133,13 +133,16 @@ fn name_shown<F: Files>(
     Ok(Some(String::from_str(alloc, level.program)?))
 }
 
-/// The first wrong program of an exercise, in the order of names.
+/// The first wrong program of an exercise, in the order of names; None if it has none, or no folder for them.
 fn first_program<F: Files>(
     alloc: Global,
     files: &F,
     exercise: &Exercise,
 ) -> Result<Option<String>, LabFault> {
     let folder = exercise.file(alloc, "wrong")?;
+    if files.symlink_metadata(&folder).is_err() {
+        return Ok(None);
+    }
     let wrong = names_ending(alloc, files, &folder, ".asm", "")?;
     match wrong.first() {
         Some(name) => Ok(Some(String::from_str(alloc, name)?)),
