@@ -146,7 +146,6 @@ def folders():
             (said.status, said.err)
     with folder_of() as folder:
         os.makedirs(os.path.join(folder, "made", "lock.play.html"))
-        tool.write(os.path.join(folder, "made", "index.html"), b"of an earlier call")
         said = lab("gallery", "made", folder=folder)
         yield "a page that can't be written", (1, b"mta_lab: made/lock.play.html: ", False), \
             (said.status, said.err[:30], os.path.exists(os.path.join(folder, "made", "index.html")))

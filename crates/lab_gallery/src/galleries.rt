@@ -42,27 +42,9 @@ impl Gallery<'_> {
         end: &str,
         page: &str,
     ) -> Result<(), LabFault> {
-        let path = self.path(alloc, name, end)?;
-        inputs.write_derived(alloc, &path, page.as_bytes())
-    }
-
-    /// Takes away the page of an earlier call, if there is one.
-    pub(crate) fn take_away<F: Files, R: Read>(
-        &self,
-        alloc: Global,
-        inputs: &Inputs<'_, F, R>,
-        name: &str,
-        end: &str,
-    ) -> Result<(), AllocError> {
-        let path = self.path(alloc, name, end)?;
-        let _ = inputs.files.remove_file(&path);
-        Ok(())
-    }
-
-    /// The path of a page in the folder.
-    fn path(&self, alloc: Global, name: &str, end: &str) -> Result<String, AllocError> {
         let folder = self.folder;
         let slash = slash_after(folder);
-        format!(in alloc; "{folder}{slash}{name}{end}")
+        let path = format!(in alloc; "{folder}{slash}{name}{end}")?;
+        inputs.write_derived(alloc, &path, page.as_bytes())
     }
 }

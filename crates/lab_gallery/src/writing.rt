@@ -16,8 +16,8 @@ use std::io::{Read, Write};
 use std::rt::Files;
 use std::time::Clock;
 
-/// Writes pages of all exercises and examples into a folder, and last the page that leads to them: if a write fails, there is
-/// no such page, also none of an earlier call. `found` has, for each exercise, the run by which its wrong program is not right.
+/// Writes pages of all exercises and examples into a folder, and last the page that leads to them: if a write fails, this page
+/// is not written. `found` has, for each exercise, the run by which its wrong program is not right.
 pub fn write_gallery<C: Clock, F: Files, R: Read, E: Write>(
     alloc: Global,
     inputs: &mut Inputs<'_, F, R>,
@@ -33,7 +33,6 @@ pub fn write_gallery<C: Clock, F: Files, R: Read, E: Write>(
         levels: &levels,
     };
     inputs.make_folder(alloc, request.folder)?;
-    gallery.take_away(alloc, inputs, "index", ".html")?;
     let mut cards: Vec<Card<'_>> = Vec::new(alloc);
     for (place, shown) in files.exercises.iter().enumerate() {
         let failing = run_at(found, place);
