@@ -83,8 +83,8 @@ def section(kind, place, calls):
 
 
 def common_calls(tables):
-    """The function that adds the texts that the tails of two pages of a crate have in a row, whose calls become one of it:
-    so each is proved once. Nothing where there are not two."""
+    """The function that adds the texts that the tails of two pages of a crate have in a row. Their calls become one of
+    it, so each is proved once. Nothing where there are not two."""
     tails = [sections["tail"] for sections in tables.values()]
     if len(tails) != 2:
         return ""
