@@ -21,6 +21,9 @@ ARGUMENTS = ("--headless=new", "--no-sandbox", "--disable-gpu", "--window-size=1
 # seconds until a page has to stand where it was sent
 PATIENCE = 20
 
+# the keys that tests call by the names that a page gets
+NAMED = {"Backspace": Keys.BACK_SPACE, "Escape": Keys.ESCAPE}
+
 
 class Page:
     """A browser that shows one page at a time, from files in a folder of its own."""
@@ -53,8 +56,8 @@ class Page:
         return self.one(selector).text
 
     def press(self, *keys):
-        """Types keys at what has the focus."""
-        self.driver.switch_to.active_element.send_keys(*keys)
+        """Types keys at what has the focus: letters, keys of the driver, and those that have names."""
+        self.driver.switch_to.active_element.send_keys(*(NAMED.get(key, key) for key in keys))
 
     def tab(self, back=False):
         keys = ActionChains(self.driver)
