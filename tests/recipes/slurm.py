@@ -132,6 +132,14 @@ class Array:
                     return int(path.split("/")[2])
         return None
 
+    def kept(self, task):
+        """How many results a task has kept: the lines of its file without heads."""
+        found = 0
+        for name in glob.glob(f"part.{task}.jsonl", root_dir=self.folder):
+            with open(os.path.join(self.folder, name), encoding="utf-8") as file:
+                found += sum('"object":"result"' in line.replace(" ", "") for line in file)
+        return found
+
     def merged(self):
         """The status of --merge, its table, and the submissions that it misses."""
         files = sorted(glob.glob("part.*.jsonl", root_dir=self.folder))
@@ -154,7 +162,7 @@ def checks(folder):
         part.made(array.folder, endless, part.COUNTING)
 
         job = array.handed_in(f"1-{PARTS}")
-        yield "one task is left", True, waited_for(lambda: array.running() == [f"{job}_3"] and array.searching(3))
+        yield "a task searches", True, waited_for(lambda: array.searching(3) and array.kept(3) == 2)
         array.called("scancel", f"{job}_3")
         yield "it is cancelled", True, waited_for(lambda: not array.running() and not array.searching(3))
         yield "as Slurm says", "CANCELLED", array.state(job, 3)
@@ -162,7 +170,7 @@ def checks(folder):
         yield "what it misses", (1, wanted), (status, missed)
 
         job = array.handed_in("3", PARTS=str(PARTS))
-        yield "it goes on", True, waited_for(lambda: array.searching(3))
+        yield "it goes on", True, waited_for(lambda: array.searching(3) and array.kept(3) == 2)
         process = array.searching(3)
         if process:
             os.kill(process, signal.SIGKILL)
