@@ -1,4 +1,5 @@
 pub mod Moving
+pub mod FreeSets
 pub mod Reached
 pub mod Grounded
 pub mod Keeping

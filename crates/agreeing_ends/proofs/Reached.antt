@@ -9,9 +9,9 @@ use Rattle.same_futures.specs.Links.{TellsHandlers, WorldsAgree}
 use Rattle.same_futures.specs.Agreeing.{EndAlike}
 use Rattle.same_futures.proofs.Chains.{agree_itself, agree_next, agree_back, schedules_agree}
 use Rattle.same_futures.proofs.Alike.{agreeing_end_alike}
-use Rattle.agreeing_ends.specs.Followed.{IsEnd, CanEnd, FoundWorlds, IsTaken, IsExpanded, IsTakenAlone, AllExpanded, AllFollowed}
+use Rattle.agreeing_ends.specs.Followed.{IsEnd, CanEnd, FoundWorlds, IsTaken, IsExpanded, IsTakenTogether, AllExpanded, AllFollowed}
 use Rattle.agreeing_ends.specs.Followed.{HasAllWorlds, HasAllEnds, IsDistinct, HasShortestEnds, TellsWhetherAllEnd, IsGrounded}
-use Rattle.agreeing_ends.proofs.Moving.{moved_or_left, moved}
+use Rattle.agreeing_ends.proofs.Moving.{moved_or_outside, moved}
 
 -- The end to which a schedule leads from the world at a place is one that another one stands for, which is near.
 record IsReached (R : World → World → Type 0) (v : FoundWorlds) (k : ℕ) (ts : List Step) : Type 0 where
@@ -98,7 +98,7 @@ module _ (handled : Type 0) (named : ℕ → Type 0) (live asked : ℕ → ℕ �
       let r = all_reached all ts 0 ground.some in
       record { place = r.place; below = r.below; stands = r.stands; short = r.short }
 
-  -- Where one may be taken alone.
+  -- Where those of a set may be taken before all others.
 
   module _ (all : AllFollowed Agree v) where
     reached : (n k : ℕ) (ts : List Step) → length ts ≤ n → k < v.count → IsEnd v.image (steps v.image (v.world k) ts)
@@ -110,11 +110,12 @@ module _ (handled : Type 0) (named : ℕ → Type 0) (live asked : ℕ → ℕ �
           | inl each ↦
               reached_on k t (t ∷ ts) ts (each t) refl refl
               (reached n (each t).to ts (omega (arith, few)) (each t).within (end_on k t (t ∷ ts) ts (each t) below refl end))
-          | inr one ↦
-              let m = moved v.image (v.world k) one.step (t ∷ ts) one.alone end in
-              reached_on k one.step (t ∷ ts) m.others one.taken m.one_less m.leads
-              (reached n one.taken.to m.others (omega (arith, few, m.one_less)) one.taken.within
-              (end_on k one.step (t ∷ ts) m.others one.taken below m.leads end))
+          | inr some ↦
+              let m = moved v.image (v.world k) some.set some.first (t ∷ ts) end in
+              let e = some.taken m.step m.there in
+              reached_on k m.step (t ∷ ts) m.others e m.one_less m.leads
+              (reached n e.to m.others (omega (arith, few, m.one_less)) e.within
+              (end_on k m.step (t ∷ ts) m.others e below m.leads end))
         ]
 
     pub has_all_ends : HasAllEnds Agree v
@@ -133,7 +134,7 @@ module _ (handled : Type 0) (named : ℕ → Type 0) (live asked : ℕ → ℕ �
         subst (λ (j : ℕ). v.depth j ≤ v.depth 0 + length ts) same r.short
 
     -- from a place, by a schedule: what is known of each shorter schedule, and of the same one from where an end is nearer
-    onward_by : (k : ℕ) (ts es : List Step) → k < v.count → IsExpanded Agree v k ⊎ IsTakenAlone Agree v k
+    onward_by : (k : ℕ) (ts es : List Step) → k < v.count → IsExpanded Agree v k ⊎ IsTakenTogether Agree v k
         → (t : Step) (rest : List Step) → ts ≡ t ∷ rest → IsEnd v.image (steps v.image (v.world k) es)
         → ((j : ℕ) (us : List Step) → suc (length us) ≡ length ts → j < v.count
         → CanEnd v.image (steps v.image (v.world j) us))
@@ -144,17 +145,20 @@ module _ (handled : Type 0) (named : ℕ → Type 0) (live asked : ℕ → ℕ �
         let e = each t in
         subst (CanEnd v.image) (ap (steps v.image (v.world k)) (sym same))
         (can_on k t rest e (shorter e.to rest (sym (ap length same)) e.within))
-    onward_by k ts es below (inr one) t rest same end shorter nearer =
-        let off = moved v.image (v.world k) one.step es one.alone end in
-        elim (moved_or_left v.image (v.world k) one.step ts one.alone) [
+    onward_by k ts es below (inr some) t rest same end shorter nearer =
+        elim (moved_or_outside v.image (v.world k) some.set some.first ts) [
           | inl on ↦
+              let e = some.taken on.step on.there in
               subst (CanEnd v.image) on.leads
-              (can_on k one.step on.others one.taken (shorter one.taken.to on.others (sym on.one_less) one.taken.within))
-          | inr left ↦
-              let there = can_on k one.step ts one.taken
-              (nearer one.taken.to off.others (sym off.one_less) one.taken.within
-              (end_on k one.step es off.others one.taken below off.leads end)) in
-              (one.step ∷ there.0, subst (λ x. IsEnd v.image (steps v.image x there.0)) left.leads there.1)
+              (can_on k on.step on.others e (shorter e.to on.others (sym on.one_less) e.within))
+          | inr out ↦
+              let off = moved v.image (v.world k) some.set some.first es end in
+              let e = some.taken off.step off.there in
+              let there = can_on k off.step ts e
+              (nearer e.to off.others (sym off.one_less) e.within (end_on k off.step es off.others e below off.leads end)) in (
+                off.step ∷ there.0,
+                subst (λ x. IsEnd v.image (steps v.image x there.0)) (sym (some.first.each off.step off.there ts out)) there.1,
+              )
         ]
 
     onward : (n m k : ℕ) (ts es : List Step) → length ts ≤ n → length es ≤ m → k < v.count

@@ -1,11 +1,13 @@
 -- Worlds that were found by steps, of which one stands for all that are alike: they are alike where R says so. With
 -- equality for R each stands for itself alone.
 use Rattle.std.specs.Prelude.{◌≡◌, ℕ, ◌+◌, ◌<◌, ◌≤◌, ◌⊎◌, List, length}
+use Rattle.std.specs.List.{Contains}
 use Rattle.image_file.specs.ImageValue.{ImageValue}
 use Rattle.processor.specs.World.{World, after, steps}
 use Rattle.processor.specs.declared.steps.Step.{Step}
 use Rattle.waiting.specs.Stuck.{SomeRuns, IsStandstill}
 use Rattle.same_futures.specs.LocalSteps.FreeSteps.{IsFreeStep}
+use Rattle.agreeing_ends.specs.FirstSets.{IsFirstSet}
 use Rattle.program_flow.specs.Agreeing.{TellsFlow}
 use Rattle.same_futures.specs.Links.{TellsHandlers}
 
@@ -41,13 +43,19 @@ pub record IsTakenAlone (R : World → World → Type 0) (v : FoundWorlds) (from
   pub alone : IsFreeStep v.image (v.world from) step
   pub taken : IsTaken R v from step
 
+-- so does each step of a set that can be taken before all others
+pub record IsTakenTogether (R : World → World → Type 0) (v : FoundWorlds) (from : ℕ) : Type 0 where
+  pub set : List Step
+  pub first : IsFirstSet v.image (v.world from) set
+  pub taken : (t : Step) → Contains set t → IsTaken R v from t
+
 -- each step from each of them is taken
 abbrev pub AllExpanded : (World → World → Type 0) → FoundWorlds → Type 0
 AllExpanded R v = (k : ℕ) → k < v.count → IsExpanded R v k
 
--- each step is, or one that can be taken before all others
+-- each step is, or those of a set that can be taken before all others
 abbrev pub AllFollowed : (World → World → Type 0) → FoundWorlds → Type 0
-AllFollowed R v = (k : ℕ) → k < v.count → IsExpanded R v k ⊎ IsTakenAlone R v k
+AllFollowed R v = (k : ℕ) → k < v.count → IsExpanded R v k ⊎ IsTakenTogether R v k
 
 -- One of them stands for the world, to which so many steps lead at most.
 pub record StandsFor (R : World → World → Type 0) (v : FoundWorlds) (w : World) (most : ℕ) : Type 0 where

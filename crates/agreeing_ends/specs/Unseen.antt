@@ -1,11 +1,13 @@
--- Worlds that were found by steps of which none that was taken alone can be seen by what is claimed, P. They are alike
+-- Worlds that were found by steps; where only those of a set were taken, one of them can't be seen by what is claimed, P. They are alike
 -- where R says so. With equality for R each stands for itself alone.
 use Rattle.std.specs.Prelude.{ℕ, ◌<◌, ◌≢◌, ◌⊎◌, ⊤, List, [], ◌∷◌}
+use Rattle.std.specs.List.{Contains}
 use Rattle.image_file.specs.ImageValue.{ImageValue}
 use Rattle.processor.specs.World.{World, after, steps}
 use Rattle.processor.specs.declared.steps.Step.{Step}
 use Rattle.same_futures.specs.LocalSteps.FreeSteps.{IsFreeStep}
-use Rattle.agreeing_ends.specs.Followed.{FoundWorlds, IsTaken, IsExpanded, world_after}
+use Rattle.agreeing_ends.specs.FirstSets.{AreOutside}
+use Rattle.agreeing_ends.specs.Followed.{FoundWorlds, IsTaken, IsExpanded, IsTakenTogether, world_after}
 
 -- Worlds that are alike still are behind the same schedule, where one of them was found.
 pub record IsMoving (R : World → World → Type 0) (v : FoundWorlds) : Type 0 where
@@ -31,9 +33,19 @@ pub record IsTakenUnseen (R : World → World → Type 0) (P : World → Type 0)
   pub later : from < taken.to
   pub unseen : IsUnseen P v.image (v.world from) step
 
--- each step from each of them is taken, or one that can't be seen
+-- Those of a set are taken from the world at this place, which can be taken before all others. One of them leads to a
+-- later place, and can't be seen behind schedules of others.
+pub record IsTakenTogetherUnseen (R : World → World → Type 0) (P : World → Type 0) (v : FoundWorlds) (from : ℕ) : Type 0 where
+  pub together : IsTakenTogether R v from
+  pub step : Step
+  pub there : Contains together.set step
+  pub later : from < (together.taken step there).to
+  pub unseen : (us : List Step) → AreOutside together.set us
+      → P (after v.image (steps v.image (v.world from) us) step) → P (steps v.image (v.world from) us)
+
+-- each step from each of them is taken, or those of a set of which one can't be seen
 abbrev pub AllFollowedUnseen : (World → World → Type 0) → (World → Type 0) → FoundWorlds → Type 0
-AllFollowedUnseen R P v = (k : ℕ) → k < v.count → IsExpanded R v k ⊎ IsTakenUnseen R P v k
+AllFollowedUnseen R P v = (k : ℕ) → k < v.count → IsExpanded R v k ⊎ IsTakenTogetherUnseen R P v k
 
 -- what is claimed holds of worlds that are alike alike
 abbrev pub IsRespected : (World → World → Type 0) → (World → Type 0) → Type 0

@@ -5,6 +5,8 @@
 mod laws;
 mod unseen;
 
-pub use laws::{followed_worlds_have_all_ends, worlds_of_schedules_are_grounded};
+pub use laws::{
+    followed_worlds_have_all_ends, free_steps_are_first_sets, worlds_of_schedules_are_grounded,
+};
 pub use same_futures::local;
 pub use unseen::unseen_steps_keep_claims;

@@ -8,7 +8,8 @@ use Rattle.busy_streams.specs.SameFutures.Handlers.{may_have_handlers}
 use Rattle.busy_streams.proofs.SameFutures.Chains.{schedules_agree}
 use Rattle.busy_streams.specs.DeadRegisters.Clearing.{IsLive, AgreeBy}
 use Rattle.busy_streams.specs.AgreeingEnds.Followed as found
-use Rattle.busy_streams.specs.AgreeingEnds.Unseen.{IsMoving, IsRespected, IsTakenUnseen}
+use Rattle.busy_streams.specs.AgreeingEnds.Unseen.{IsMoving, IsRespected, IsTakenTogetherUnseen}
+use Rattle.busy_streams.proofs.AgreeingEnds.FreeSets.{together_unseen}
 use Rattle.busy_streams.proofs.AgreeingEnds.Keeping.{holds_wherever}
 use Rattle.expectations.specs.declared.expectation.Expectation.{Expectation}
 use Rattle.claims.specs.declared.claim.Claim.{Claim}
@@ -43,9 +44,9 @@ module _ (v : SpaceValue) (claims : List Claim) (live : IsLive v.image v.live) (
   respects a b alike holds = sym (agreeing_claims v.live a b alike claims) ∙ holds
 
   unseen_at : (k : ℕ) → IsFollowedQuietly shown.looked_at v k
-      → found.IsExpanded (AgreeBy v.live) (found_in v) k ⊎ IsTakenUnseen (AgreeBy v.live) Holds (found_in v) k
+      → found.IsExpanded (AgreeBy v.live) (found_in v) k ⊎ IsTakenTogetherUnseen (AgreeBy v.live) Holds (found_in v) k
   unseen_at k (inl each) = inl (λ t. (each t).step)
-  unseen_at k (inr one) = inr (record {
+  unseen_at k (inr one) = inr (together_unseen (AgreeBy v.live) Holds (found_in v) k (record {
     step = one.step;
     alone = one.alone;
     taken = one.taken.step;
@@ -55,7 +56,7 @@ module _ (v : SpaceValue) (claims : List Claim) (live : IsLive v.image v.live) (
         quiet_behind shown.looked_at v.image ((found_in v).world k) one.step us one.alone one.quiet others in
         sym (same_claims shown.looked_at v.image (steps v.image ((found_in v).world k) us) one.step there claims shown.covers)
         ∙ holds;
-  })
+  }))
 
   pub claims_hold : AreKept v claims → (ts : List Step) → Holds (run v.image (v.begin ++ ts))
   claims_hold kept ts =

@@ -4,3 +4,5 @@ mod Words
 mod PackedTags
 mod BankCells
 mod BankedCells
+mod TwoRequests
+mod NoForwards

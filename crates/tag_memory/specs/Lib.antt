@@ -5,6 +5,8 @@ pub mod Storage
 pub mod Access
 pub mod Chain
 pub mod Answer
+pub mod Distant
+pub mod Unforwarded
 -- The aids: how the words are kept, which only the storage knows;
 pub mod Banks
 -- and a proof on which the model of a word rests, since a model can take none from proofs/.

@@ -5,6 +5,7 @@
 
 mod bank;
 mod chain;
+mod distant;
 mod endings;
 mod full_empty;
 mod packed_tags;
@@ -14,7 +15,9 @@ mod serving;
 mod storage;
 mod tag_set;
 mod tagged_word;
+mod unforwarded;
 
+pub use distant::distant_requests_swap;
 pub use endings::Ending;
 pub use pointers::{AccessControl, Pointer};
 pub use requests::{Acc, MemOp, MemTrap, Reply, Request, RequestMask};
@@ -22,3 +25,4 @@ pub use serving::serving_laws;
 pub use storage::{DEFAULT_CHAIN_LIMIT, MAX_CHAIN_LIMIT, MAX_WORDS, Memory};
 pub use tag_set::Tags;
 pub use tagged_word::Word;
+pub use unforwarded::unforwarded_memories_stay;
