@@ -62,12 +62,12 @@ put_there : {X : Type 0} (xs : List X) (n : ℕ) (x c : X) → slice_get (set xs
 put_there xs n x c e = elim (cases_lt n (length xs)) [
   | inl within ↦
       let put : slice_get (set xs n x) n ≡ Some x =
-          slice_get-get_or (set xs n x) n x (omega (arith, within, length-set xs n x))
-          ∙ ap Some (get_or-set_same xs n x x within) in
+      slice_get-get_or (set xs n x) n x (omega (arith, within, length-set xs n x))
+      ∙ ap Some (get_or-set_same xs n x x within) in
       let same : Some c ≡ Some x = sym e ∙ put in cc
   | inr past ↦
       let none : slice_get (set xs n x) n ≡ None =
-          slice_get_past (set xs n x) n (omega (arith, past, length-set xs n x)) in
+      slice_get_past (set xs n x) n (omega (arith, past, length-set xs n x)) in
       let never : None ≡ Some c = sym none ∙ e in cc
 ]
 
@@ -77,7 +77,7 @@ get_put : (xs : List Cell) (k n : ℕ) (d c : Cell) → d.forward ≡ false
 get_put xs k n d c clear others e = elim (cases_eq n k) [
   | inl same ↦
       let there : slice_get (set xs n d) n ≡ Some c =
-          ap (λ j. slice_get (set xs j d) n) same ∙ e in
+      ap (λ j. slice_get (set xs j d) n) same ∙ e in
       ap (λ (x : Cell). x.forward) (put_there xs n d c there) ∙ clear
   | inr apart ↦ others c (sym (get_other xs k n d apart) ∙ e)
 ]
