@@ -4,5 +4,5 @@ mod Words
 mod PackedTags
 mod BankCells
 mod BankedCells
-mod TwoRequests
-mod NoForwards
+pub mod TwoRequests
+pub mod NoForwards
