@@ -6,3 +6,4 @@ mod BankCells
 mod BankedCells
 pub mod TwoRequests
 pub mod NoForwards
+pub mod Unchanged
