@@ -11,7 +11,7 @@ use tag_memory::{Acc, MemOp, MemTrap};
 
 /// The access field of the instruction, as the memory takes it.
 #[inline(always)]
-pub(crate) fn acc_of(access: Access) -> Acc
+pub fn acc_of(access: Access) -> Acc
     ensures { result ≡ access_of access }
 {
     match access {

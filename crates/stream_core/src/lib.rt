@@ -14,9 +14,9 @@ mod traps;
 
 pub use arithmetic::{alu, less_after_subtraction, signed_shift_divides};
 pub use conditions::{Code, holds};
-pub use conversions::trap_of;
+pub use conversions::{acc_of, trap_of};
 pub use status_words::{Codes, StatusWord, TrapMask, status_words_are_their_digits};
 pub use steps::{Child, Control, Fetch, Outcome, Plan, Status};
 pub use stream_texts::stream_text;
-pub use streams::Stream;
+pub use streams::{Stream, displaced_pointer};
 pub use traps::TrapKind;

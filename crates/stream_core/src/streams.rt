@@ -12,6 +12,7 @@ use crate::registers::{Registers, Targets};
 use crate::status_words::StatusWord;
 use crate::steps::{Child, Outcome, Status};
 use crate::traps::TrapKind;
+pub use planning::displaced_pointer;
 use std::marker::Model;
 
 /// The pc that names no trap handler.

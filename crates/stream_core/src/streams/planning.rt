@@ -205,9 +205,10 @@ impl Stream {
     }
 }
 
-/// The effective pointer: so many words further, modulo 2^48, with the upper 16 bits as they are.
+/// The effective pointer: so many words further, modulo 2^48, with the upper 16 bits as they are ("Memory operations",
+/// docs/MACHINE.md).
 #[inline(always)]
-fn displaced_pointer(pointer: u64, words: i8) -> Pointer
+pub fn displaced_pointer(pointer: u64, words: i8) -> Pointer
     ensures { result ≡ displaced_pointer pointer words }
 {
     let bytes = i64::from(words) * WORD_BYTES;
