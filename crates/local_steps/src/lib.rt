@@ -8,4 +8,4 @@ mod settling;
 
 pub use deciding::{is_free_step, is_local_step, is_settled_ending};
 pub use laws::{ending_steps_commute, local_steps_commute};
-pub use settling::settled_places;
+pub use settling::{is_calm, settled_places};

@@ -2,13 +2,13 @@
 
 ghost use Rattle.std.specs.Prelude.{◌≡◌, ℕ, IsTrue, IfOk, slice_get};
 ghost use Rattle.stream_core.specs.StreamRow.{fetch_word};
-ghost use Rattle.stream_core.specs.Effects.{skip_pc};
 ghost use Rattle.program_flow.specs.Flow.{GoesTo};
 ghost use Rattle.local_steps.specs.SettledEndings.{is_settled_place, AreSettled};
 ghost use Rattle.local_steps.specs.CalmPlaces.{is_calm, IsCalmAt, AreCalm};
 
 use image_file::Image;
 use insn_word::{Condition, ControlOp, Insn, Profile, WideOp, decode_as};
+use program_flow::skipped;
 use std::alloc::{AllocError, Global};
 
 /// How often a program is gone through at most.
@@ -94,7 +94,7 @@ fn is_calm_at(profile: Profile, program: &[u64], places: &[bool], place: u32) ->
 }
 
 /// Whether an instruction asks for no stream, leaves t0, and leads to places that the word names.
-fn is_calm(insn: &Insn) -> bool
+pub fn is_calm(insn: &Insn) -> bool
     ensures { result ≡ is_calm insn.now }
 {
     match insn {
@@ -143,15 +143,6 @@ fn leads_to_settled(insn: &Insn, places: &[bool], place: u32) -> bool
             | ControlOp::Mask => next,
         },
     }
-}
-
-/// The place so many words after the next one, modulo 2^32.
-fn skipped(place: u32, words: i8) -> u32
-    ensures { result ≡ skip_pc place words }
-{
-    place
-        .wrapping_add(1)
-        .wrapping_add(i32::from(words).cast_unsigned())
 }
 
 /// Whether a place is settled; past the end none is.

@@ -13,4 +13,5 @@ mod rows;
 pub use asked_codes::code_table;
 pub use laws::{agreement_is_kept, row_sees_reads, writes_agree};
 pub use live_tables::live_table;
+pub use operands::skipped;
 pub use rows::{CodeRow, Row};

@@ -85,7 +85,7 @@ pub(crate) fn may_trap(insn: &Insn) -> bool
 }
 
 /// The place so many words after the next one, modulo 2^32.
-pub(crate) fn skipped(place: u32, words: i8) -> u32
+pub fn skipped(place: u32, words: i8) -> u32
     ensures { result ≡ skip_pc place words }
 {
     place
