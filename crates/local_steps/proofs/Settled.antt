@@ -52,7 +52,7 @@ rests : (image : ImageValue) (s : StreamValue) → is_running s ≡ false → im
 unfolding fetch_of
 rests image s none = rest_status image.profile s.status image.program s.ssw.pc none
 
-own_rest : (image : ImageValue) (s : StreamValue) (r : Option Reply) → is_running s ≡ false → own_step image s r ≡ s
+pub own_rest : (image : ImageValue) (s : StreamValue) (r : Option Reply) → is_running s ≡ false → own_step image s r ≡ s
 unfolding control_at stream_row
 own_rest image s r none =
     ap (λ f. left_by (control_from s f) (row_from image.retry_limit s 0 r f)) (rests image s none)
@@ -82,7 +82,7 @@ kept_by_control s c control.TargetSet l e =
     kept_target s.targets c.t (status_from (register_at s.registers c.ra)) (not_zero c.t e)
 kept_by_control s c o l e = refl
 
-kept_handler : (s : StreamValue) (i : Insn) (value : ℕ) → is_calm i ≡ true
+pub kept_handler : (s : StreamValue) (i : Insn) (value : ℕ) → is_calm i ≡ true
     → target_at (after_instruction s i value 0).targets 0 ≡ target_at s.targets 0
 unfolding after_instruction
 kept_handler s (Wide look wide.Literal reg imm) value e = refl
@@ -105,7 +105,7 @@ asks_calm s (Normal look m a c) e = asks_by s c c.op e
 
 -- The steps of a stream at a settled place.
 
-both_true : (a b : Bool) → (a && b) ≡ true → (a ≡ true) × (b ≡ true)
+pub both_true : (a b : Bool) → (a && b) ≡ true → (a ≡ true) × (b ≡ true)
 both_true true true e = (refl, refl)
 both_true true false e = cc
 both_true false true e = cc
@@ -207,11 +207,11 @@ module _ (places : List Bool) (s : StreamValue) (at : is_settled_place places s.
   asks_from (fetch.Instruction i) calm = asks_calm s i calm.0
 
 -- whether it runs or not
-runs_or_not : (b : Bool) → (b ≡ false) ⊎ (b ≡ true)
+pub runs_or_not : (b : Bool) → (b ≡ false) ⊎ (b ≡ true)
 runs_or_not true = inr refl
 runs_or_not false = inl refl
 
-fetch_runs : (image : ImageValue) (s : StreamValue) → is_running s ≡ true
+pub fetch_runs : (image : ImageValue) (s : StreamValue) → is_running s ≡ true
     → image_fetch image s ≡ fetch_word image.profile (slice_get image.program s.ssw.pc)
 unfolding fetch_of
 fetch_runs image s runs = by s.status runs where
