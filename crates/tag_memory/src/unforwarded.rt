@@ -8,7 +8,7 @@ ghost use Rattle.tag_memory.specs.Distant.{last_word, LeavesOut};
 ghost use Rattle.tag_memory.specs.Unforwarded.{IsUnforwarded, sets_forward};
 ghost use Rattle.tag_memory.specs.declared.requests.Request.{Request};
 
-/// Where no word has the forward bit, none has it behind a request that sets none. A request ends at the word of its own
+/// Where no word has the forward bit, none has it after a request that sets none. A request ends at the word of its own
 /// pointer there, and is led to no other one.
 pub fn unforwarded_memories_stay()
     ensures stays { (m : TaggedMemory) (q : Request) → IsUnforwarded m → sets_forward q.op q.value ≡ false

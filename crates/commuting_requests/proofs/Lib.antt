@@ -1,0 +1,4 @@
+pub mod Leaving
+pub mod Swapping
+pub mod Unchanging
+pub mod Distances

@@ -1,0 +1,3 @@
+-- What public contracts promise: requests that commute, and steps that make them.
+pub mod Pairs
+pub mod RequestSteps

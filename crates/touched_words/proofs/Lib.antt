@@ -1,0 +1,6 @@
+mod Writing
+mod Asking
+mod Registers
+mod Leading
+mod Passing
+pub mod Staying
