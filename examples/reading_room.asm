@@ -1,6 +1,7 @@
 ; Two readers and a writer share a room, again and again. Readers may be inside together, the writer only alone. The word
 ; readers counts who reads, and is empty while a reader changes it. The first reader takes the room, the last one releases it.
 ; Look at: mta_lab explore reading_room.asm --waiting. If readers always overlap, the writer waits forever.
+; See turnstile.asm and writers_first.asm.
         .slim 1
         .entry read
         .entry read
