@@ -30,7 +30,7 @@ apart_of t u apart = by_processor (same_or_other u.p t.p) (same_or_other u.s t.s
 
 module _ (image : ImageValue) where
   -- the step of a stream that finds this instruction
-  stepped : (w : World) (t : Step) (s : StreamValue) (q : Option Request) (f : IsRequestStep image w t s q)
+  pub stepped : (w : World) (t : Step) (s : StreamValue) (q : Option Request) (f : IsRequestStep image w t s q)
       → world_step image w t
       ≡ (
         record {

@@ -4,6 +4,6 @@
 mod laws;
 
 pub use laws::{
-    distant_requests_commute, steps_of_commuting_requests_commute, steps_of_commuting_requests_stay,
-    unchanging_requests_commute,
+    distant_requests_commute, steps_of_commuting_requests_commute,
+    steps_of_commuting_requests_stay, unchanging_requests_commute,
 };

@@ -1,38 +1,34 @@
 -- A set of steps that is apart from those of all others can be taken before all of them.
 use Rattle.std.proofs.Common.{◌≡◌, ◌≢◌, ℕ, ◌⊎◌, inl, inr, Bool, true, false, refl, sym, ap, ◌∙◌, subst, List, [], Option, Some, None, slice_get}
-use Rattle.std.specs.Prelude.{IsTrue}
 use Rattle.std.specs.List.{Contains}
 use Rattle.insn_word.specs.declared.insn.Insn.{Insn}
 use Rattle.tag_memory.specs.Unforwarded.{IsUnforwarded}
 use Rattle.tag_memory.specs.declared.requests.Request.{Request}
-use Rattle.tag_memory.specs.declared.requests.Reply.{Reply}
 use Rattle.image_file.specs.ImageValue.{ImageValue}
 use Rattle.stream_core.specs.Streams.{StreamValue}
 use Rattle.stream_core.specs.Effects.{request_of}
 use Rattle.stream_core.specs.StreamRow.{fetch_of, control_of, control_from, control_at}
 use Rattle.stream_core.specs.declared.steps.Outcome.{Outcome}
-use Rattle.stream_core.specs.declared.steps.Outcome.TheVariants as outcome
 use Rattle.stream_core.specs.declared.steps.Fetch.TheVariants as fetch
 use Rattle.processor.specs.Processors.{ProcessorValue, stream_at}
 use Rattle.processor.specs.Records.{is_running}
 use Rattle.processor.specs.Row.{memory_reply}
-use Rattle.processor.specs.World.{World, world_step, after, steps, outcome_of}
+use Rattle.processor.specs.World.{World, after, outcome_of}
 use Rattle.processor.specs.declared.steps.Step.{Step}
-use Rattle.waiting.specs.Running.{streams_at, runs_in}
-use Rattle.waiting.specs.Stuck.{IsStuck}
+use Rattle.waiting.specs.Running.{streams_at}
 use Rattle.local_steps.specs.NeverAsking.{AsksForNone}
 use Rattle.local_steps.specs.SettledEndings.{stream_in}
 use Rattle.agreeing_ends.specs.FirstSets.{IsFirstSet}
 use Rattle.agreeing_ends.proofs.FreeSets.{first_by}
 use Rattle.agreeing_ends.proofs.Moving.{same_step}
-use Rattle.touched_words.specs.TouchTables.{TouchValue, marks_at}
-use Rattle.touched_words.specs.ClosedTables.{AreAmong, IsNamed, IsClosedAt, IsClosedTable}
-use Rattle.touched_words.specs.Standing.{IsStanding, IsStandingFrom, IsHeldFrom, IsPassedFrom}
+use Rattle.touched_words.specs.TouchTables.{TouchValue}
+use Rattle.touched_words.specs.ClosedTables.{IsNamed, IsClosedAt}
+use Rattle.touched_words.specs.Standing.{IsStandingFrom, IsHeldFrom, IsPassedFrom}
 use Rattle.touched_words.proofs.Staying.{finds, stays, never}
 use Rattle.commuting_requests.specs.Pairs.{DoCommute}
-use Rattle.commuting_requests.specs.RequestSteps.{IsRequestIn, IsRequestStep}
+use Rattle.commuting_requests.specs.RequestSteps.{IsRequestStep}
 use Rattle.commuting_requests.proofs.Swapping as swap
-use Rattle.first_sets.specs.ApartSets.{table_at, KeepsOff, IsMember, IsApartSet}
+use Rattle.first_sets.specs.ApartSets.{table_at, KeepsOff, IsApartSet}
 use Rattle.first_sets.proofs.Resting as rest
 use Rattle.first_sets.proofs.Meeting.{passed_commutes, still_unforwarded}
 

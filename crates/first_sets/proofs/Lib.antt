@@ -1,3 +1,5 @@
 pub mod Resting
 pub mod Meeting
 pub mod Apart
+pub mod Members
+pub mod NeverForwarded

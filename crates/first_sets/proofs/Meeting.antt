@@ -1,9 +1,7 @@
 -- Requests of a stream that stands at a closed place commute with one that its table says is passed.
 use Rattle.std.proofs.Common.{◌≡◌, ◌≢◌, ℕ, ◌/◌, ◌⊎◌, inl, inr, Bool, true, false, refl, sym, ap, ◌∙◌, Option, Some, None, slice_get}
-use Rattle.std.specs.Prelude.{IsTrue}
 use Rattle.tag_memory.specs.Address.{address_of}
 use Rattle.tag_memory.specs.Storage.{TaggedMemory}
-use Rattle.tag_memory.specs.Answer.{answer}
 use Rattle.tag_memory.specs.Distant.{last_word, AreDistant}
 use Rattle.tag_memory.specs.Unforwarded.{IsUnforwarded}
 use Rattle.tag_memory.specs.ReadRequests.{may_change}

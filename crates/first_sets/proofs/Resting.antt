@@ -9,7 +9,6 @@ use Rattle.std.proofs.lemmas.Option.{slice_get-get_or, slice_get_past, get_or_fr
 use Rattle.tag_memory.specs.declared.requests.Request.{Request}
 use Rattle.tag_memory.specs.declared.requests.Reply.{Reply}
 use Rattle.image_file.specs.ImageValue.{ImageValue}
-use Rattle.insn_word.specs.declared.insn.Insn.{Insn}
 use Rattle.stream_core.specs.Streams.{StreamValue, idle}
 use Rattle.stream_core.specs.StreamRow.{fetch_if, fetch_of, control_from, control_at, row_from, stream_row}
 use Rattle.stream_core.specs.declared.steps.Status.{Status}
@@ -31,7 +30,7 @@ use Rattle.local_steps.specs.SettledEndings.{stream_in}
 use Rattle.local_steps.proofs.Commuting.{there_same}
 use Rattle.local_steps.proofs.Orders.{same_or_other}
 use Rattle.commuting_requests.specs.RequestSteps.{IsRequestStep}
-use Rattle.commuting_requests.proofs.Leaving.{left_after, into}
+use Rattle.commuting_requests.proofs.Leaving.{into}
 use Rattle.commuting_requests.proofs.Swapping.{moved}
 
 rest_alone : (f : Fetch) → rests f ≡ true → f ≡ fetch.Rest

@@ -1,8 +1,10 @@
 -- Sets of steps that meet no step of others in any word, by tables of what others may still ask for.
-use Rattle.std.specs.Prelude.{◌≡◌, ◌⊎◌, ℕ, false, List, [], Some, slice_index_or}
+use Rattle.std.specs.Prelude.{◌≡◌, ◌⊎◌, ℕ, Bool, true, false, List, [], Some, slice_index_or}
 use Rattle.std.specs.List.{Contains}
 use Rattle.tag_memory.specs.Unforwarded.{IsUnforwarded}
 use Rattle.tag_memory.specs.declared.requests.Request.{Request}
+use Rattle.tag_memory.specs.declared.requests.Reply.{Reply}
+use Rattle.tag_memory.specs.declared.requests.Reply.TheVariants as reply
 use Rattle.image_file.specs.ImageValue.{ImageValue}
 use Rattle.stream_core.specs.Streams.{StreamValue}
 use Rattle.stream_core.specs.declared.steps.Outcome.TheVariants as outcome
@@ -37,6 +39,12 @@ pub record IsMember (image : ImageValue) (tables : List TouchValue) (w : World) 
   pub request : Request
   pub makes : IsRequestStep image w t stream (Some request)
   pub apart : (u : Step) → ¬ (Contains set u) → KeepsOff tables w u request
+
+-- whether a reply is that the reference is blocked
+abbrev pub is_blocked : Reply → Bool
+is_blocked (reply.Done n) = false
+is_blocked (reply.Blocked a) = true
+is_blocked (reply.Trap k a) = false
 
 -- Each step of the set is such a one, by closed tables; no word has the forward bit; and one of the steps is not Blocked.
 pub record IsApartSet (image : ImageValue) (tables : List TouchValue) (w : World) (set : List Step) : Type 0 where

@@ -1,6 +1,10 @@
 //! Sets of steps that can be taken before all others (docs/LAB.md, "Every schedule").
 #![tactic(auto)]
 
+mod deciding;
+mod forward_bits;
 mod laws;
 
+pub use deciding::is_apart_set;
+pub use forward_bits::may_forward;
 pub use laws::apart_sets_are_first;

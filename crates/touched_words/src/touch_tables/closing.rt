@@ -141,7 +141,11 @@ impl TouchTable {
         ensures { IsTrue result → LeadsOn self.now insn.now place to }
     {
         is_closed(&self.closed, to)
-            && covers_known(known_at(&self.known, place), insn, known_at(&self.known, to))
+            && covers_known(
+                known_at(&self.known, place),
+                insn,
+                known_at(&self.known, to),
+            )
             && are_among(marks_at(&self.touches, to), marks_at(&self.touches, place))
             && are_among(marks_at(&self.changes, to), marks_at(&self.changes, place))
     }

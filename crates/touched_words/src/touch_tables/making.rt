@@ -63,11 +63,7 @@ impl TouchTable {
 
 impl<'p> Draft<'p> {
     /// A row for each word of the program, of which nothing is known; none where the program is too long.
-    fn new(
-        alloc: Global,
-        profile: Profile,
-        program: &'p [u64],
-    ) -> Result<Draft<'p>, AllocError> {
+    fn new(alloc: Global, profile: Profile, program: &'p [u64]) -> Result<Draft<'p>, AllocError> {
         let mut rows = Vec::new(alloc);
         if program.len() <= MOST_PLACES {
             for _ in program {
@@ -157,20 +153,32 @@ impl<'p> Draft<'p> {
     /// known, or that asks for a stream.
     fn name_words(&mut self) -> Result<(), AllocError> {
         for place in 0..self.last_place() {
-            if let Some(row) = self.row_at(place) {
-                let named = match self.instruction_at(place) {
-                    Some(insn) if is_calm(&insn) => self.named(row, &insn)?,
-                    _ => None,
-                };
-                if let Some(there) = self.rows.get_mut(place as usize) {
-                    match named {
-                        Some(named) => *there = named,
-                        None => there.is_closed = false,
-                    }
-                }
-            }
+            self.name_word_at(place)?;
         }
         Ok(())
+    }
+
+    /// The same of one place.
+    fn name_word_at(&mut self, place: u32) -> Result<(), AllocError> {
+        let Some(row) = self.row_at(place) else {
+            return Ok(());
+        };
+        let named = self.named_at(place, row)?;
+        if let Some(there) = self.rows.get_mut(place as usize) {
+            *there = named.unwrap_or(DraftRow {
+                is_closed: false,
+                ..row
+            });
+        }
+        Ok(())
+    }
+
+    /// The row of a place with its word marked; None where that is not known, or a stream is asked for.
+    fn named_at(&mut self, place: u32, row: DraftRow) -> Result<Option<DraftRow>, AllocError> {
+        match self.instruction_at(place) {
+            Some(insn) if is_calm(&insn) => self.named(row, &insn),
+            Some(_) | None => Ok(None),
+        }
     }
 
     /// The row of a place with the word marked that its instruction asks for; None where that is not known.
@@ -231,22 +239,25 @@ impl<'p> Draft<'p> {
         let mut changed = false;
         for to in next_places(&insn, place) {
             if let Some(to) = to {
-                match self.row_at(to) {
-                    None => {
-                        next.is_closed = false;
-                        changed = true;
-                    }
-                    Some(there) => {
-                        changed = add_marks(&mut next.touches, &there.touches) || changed;
-                        changed = add_marks(&mut next.changes, &there.changes) || changed;
-                    }
-                }
+                changed = self.take_from(&mut next, to) || changed;
             }
         }
         if let Some(there) = self.rows.get_mut(place as usize) {
             *there = next;
         }
         changed
+    }
+
+    /// Takes back a row where the place to which it leads is not closed, else marks what is marked there. Says whether
+    /// something has changed.
+    fn take_from(&self, row: &mut DraftRow, to: u32) -> bool {
+        let Some(there) = self.row_at(to) else {
+            row.is_closed = false;
+            return true;
+        };
+        let is_touched = add_marks(&mut row.touches, &there.touches);
+        let is_changed = add_marks(&mut row.changes, &there.changes);
+        is_touched || is_changed
     }
 
     /// The table of these rows.
@@ -317,7 +328,11 @@ fn next_places(insn: &Insn, place: u32) -> [Option<u32>; 2] {
             | ControlOp::Quit
             | ControlOp::QuitKeep => [None, None],
             ControlOp::Skip => {
-                let passed = if c.cond == Condition::Always { None } else { next };
+                let passed = if c.cond == Condition::Always {
+                    None
+                } else {
+                    next
+                };
                 [passed, Some(skipped(place, c.n))]
             }
             ControlOp::Nop
