@@ -61,8 +61,14 @@ const FINDINGS = {
   unread: { title: "Overwritten unread: ", one: "a store that no stream read", many: "stores that no stream read" },
   torn: { title: "A torn read: ", one: "a torn read", many: "torn reads" },
 };
-const WROTE = { FADD: "added", PURGE: "purged it to" };
-const wrote = (step) => `${WROTE[step.ref[0]] ?? "stored"} ${number(step.ref[4])}`;
+const WROTE = { FADD: "added", STORE: "stored" };
+
+/** What step n wrote: what it added or stored, else the value that its word has then, as TAGSET writes no value of its own. */
+const wrote = (step, n) => {
+  const [operation, , , address, value] = step.ref;
+  const deed = WROTE[operation];
+  return deed ? `${deed} ${number(value)}` : `wrote ${number(wordAfter(address, n)[0])}`;
+};
 
 /** A finding in words; `isHere` where the step itself is being told. */
 function findingText(finding, isHere) {
@@ -78,7 +84,7 @@ function findingText(finding, isHere) {
   }
   const read = steps[finding.read - 1];
   const made = `, made from the ${number(read.ref[5])} that ${stored.who} had read in `;
-  const between = `. Between them ${over.who} ${wrote(over)} in `;
+  const between = `. Between them ${over.who} ${wrote(over, finding.over)} in `;
   return [...start, made, stepLink(finding.read), between, overLink, ", which is lost."];
 }
 
