@@ -18,7 +18,7 @@ A result that one stream stores once and many read: the readers use LOAD.F, the 
 >  QUIT
 
 = .S sync
-An access .S is sync: it waits for the full bit. LOAD.S and STORE.S then change it, FADD.S leaves it full.
+An access .S is sync: it waits until the word is full, and STORE.S until it is empty. LOAD.S and STORE.S then change that.
 
   LOAD.S   waits until the word is full, and leaves it empty
   STORE.S  waits until the word is empty, and leaves it full

@@ -1,7 +1,7 @@
 //! Pages of `explain`: docs/words/outcomes.txt. Made by docs/words/make.py.
 
 pub(crate) const TEXT: &str = r"= 1 PROGRAM
-Trap 1, PROGRAM: the pc is past the program's end.
+Trap 1, PROGRAM: the pc is at or past the program's end.
 
 What to do: end the stream by QUIT, or look which SKIP or JUMP goes too far.
 
@@ -48,7 +48,7 @@ Trap 10, BLOCKED: tried too often. The reference was blocked more often than .re
 Outcome DONE: the step did all that its word says.
 
 = BLOCKED
-Outcome BLOCKED: the reference waits for the full bit of its word, and the next step of the stream tries it again.
+Outcome BLOCKED: the reference waits for its word to be full, or to be empty. The next step of the stream tries it again.
 
 view and explore say who waits for which word, and since when.
 
