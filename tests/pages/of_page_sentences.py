@@ -22,6 +22,18 @@ SAID = """
   const text = (nodes) => nodes.map((node) => node.textContent ?? node).join("");
   return steps.map((step, i) => [step.who, text(sentence(step, i + 1))]);
 """
+# between a load and the store of what it read a TAGSET of 1 fills the word, whose value stays 5
+FILLED = """ .entry count
+ .entry fill
+ .data 5, 0
+count: LOAD.N r1, r0, 0
+ ADD r1, r1, 1
+ STORE.N r1, r0, 0
+ QUIT
+fill: LIT r2, 1
+ TAGSET r2, r0, 0
+ QUIT
+"""
 # what the page says after some step, and in the table's row of it
 SHOWN = """
   tableFrom = -1;
@@ -64,9 +76,20 @@ def compared(page, name, source, schedule):
     return said
 
 
+def filled_between(page):
+    """What came between is told by the value that its word has then: a TAGSET writes none of its own."""
+    source, schedule = (pathlib.Path(page.folder) / f"filled.{kind}" for kind in ("asm", "schedule"))
+    source.write_text(FILLED)
+    schedule.write_text("0 0 1\n1 0 2\n0 0 2\n")
+    page.open("filled", runs.page_of(page.folder, source, schedule))
+    told, _ = page.script(SHOWN, 5)
+    tally.check("a TAGSET between", "Between them 1.0 wrote 5 in step 3, which is lost." in told, told)
+
+
 def part(page):
     if not runs.has_pages():
         return
+    filled_between(page)
     said = []
     for name in EXAMPLES:
         said += compared(page, name, *runs.files_of(name))
