@@ -90,6 +90,9 @@ fn propose_written(out: &mut Proposals, marked: &Marked, text: &str) -> Result<(
     {
         return propose_name(out, marked, name);
     }
+    if marked.is_of("TLIT") && text.starts_with("TLIT ") {
+        return out.write(&marked.line, marked.operation(), text);
+    }
     Ok(())
 }
 

@@ -122,21 +122,52 @@ pub(crate) fn put_address_help(
     head: Token,
     words: &[Token],
 ) -> Result<bool, AllocError> {
-    if !is_reference(taking)
-        || words.len() != 2
-        || !begins_with(help.alloc(), reader, OperandForm::Register, words)?
-    {
+    if !is_reference(taking) {
         return Ok(false);
     }
-    let (Some(register), Some(operand)) = (words.first(), words.last()) else {
+    let Some((register, operand)) = register_and_address(help.alloc(), reader, words)? else {
         return Ok(false);
     };
+    if is_below_zero(operand.bytes) {
+        help.put("no address is below 0: the first data word is [0]");
+        return Ok(true);
+    }
     match written_number(operand.bytes) {
         Some(address) if address % 8 == 0 => {
-            put_reference(help, head, *register, address);
+            put_reference(help, head, register, address);
             Ok(true)
         }
         _ => Ok(false),
+    }
+}
+
+/// The register among the operands of a reference without base and displacement, and the other one, which may be an
+/// address: in either order, or r1 and the one that stands alone. None where there are others.
+fn register_and_address<'t>(
+    alloc: Global,
+    reader: &Reader,
+    words: &[Token<'t>],
+) -> Result<Option<(Token<'t>, Token<'t>)>, AllocError> {
+    match words {
+        [alone] => Ok(Some((Token::of_line(b"r1"), *alone))),
+        [first, second] => {
+            if fits(alloc, reader, OperandForm::Register, *first)? {
+                Ok(Some((*first, *second)))
+            } else if fits(alloc, reader, OperandForm::Register, *second)? {
+                Ok(Some((*second, *first)))
+            } else {
+                Ok(None)
+            }
+        }
+        _ => Ok(None),
+    }
+}
+
+/// Whether an operand is a number with a minus.
+fn is_below_zero(operand: &[u8]) -> bool {
+    match operand {
+        [b'-', digits @ ..] => written_number(digits).is_some(),
+        _ => false,
     }
 }
 

@@ -54,8 +54,10 @@ pub(crate) fn note_operands(
     let pieces = operand_pieces(notes.alloc(), operands)?;
     if pieces.len() < taking.least || pieces.len() > taking.forms.len() {
         note_count(notes, reader, taking, head, operands, &pieces)
-    } else {
+    } else if !note_turned(notes, reader, taking, &pieces)? {
         note_each(notes, reader, taking, &pieces)
+    } else {
+        Ok(())
     }
 }
 
@@ -66,6 +68,40 @@ fn operand_pieces<'t>(alloc: Global, operands: Token<'t>) -> Result<Vec<Token<'t
     } else {
         pieces(alloc, operands, b',')
     }
+}
+
+/// Notes that a label stands before the target register of TLIT, which takes it last, and answers whether one does.
+fn note_turned(
+    notes: &mut Notes,
+    reader: &Reader,
+    taking: Taking,
+    pieces: &[Token],
+) -> Result<bool, AllocError> {
+    let [label, target] = pieces else {
+        return Ok(false);
+    };
+    let alloc = notes.alloc();
+    let form = OperandForm::Target;
+    if taking.name != "TLIT"
+        || reader.place_of(label.bytes).is_none()
+        || reader.operand_fault(alloc, form, label.bytes)?.is_none()
+        || reader.operand_fault(alloc, form, target.bytes)?.is_some()
+    {
+        return Ok(false);
+    }
+    notes.help.put("write TLIT ");
+    put_shown(&mut notes.help, target.bytes);
+    notes.help.put(", ");
+    put_shown(&mut notes.help, label.bytes);
+    let taken = Taken {
+        taking,
+        place: 0,
+        form,
+    };
+    put_form_words(&mut notes.words, taken, *label);
+    notes.number(Fault::Operand.number());
+    notes.add(reader.spot(*label))?;
+    Ok(true)
 }
 
 /// Notes what is wrong with each of as many operands as may stand there.
@@ -181,10 +217,15 @@ fn note_form(
     if !put_data_help(notes, reader, taken.form, operand.bytes)? {
         put_form_help(&mut notes.help, reader, taken.form, operand)?;
     }
-    taken.put_name(&mut notes.words);
-    notes.words.put_all(&[" is ", taken.form.noun(), ", and "]);
-    put_shown(&mut notes.words, operand.bytes);
-    notes.words.put(" is none");
+    put_form_words(&mut notes.words, taken, operand);
     notes.number(Fault::Operand.number());
     notes.add(reader.spot(operand))
+}
+
+/// Adds that an operand is none of its form.
+fn put_form_words(words: &mut TextWriter, taken: Taken, operand: Token) {
+    taken.put_name(words);
+    words.put_all(&[" is ", taken.form.noun(), ", and "]);
+    put_shown(words, operand.bytes);
+    words.put(" is none");
 }
