@@ -48,53 +48,57 @@ pub(crate) enum FoundLink {
     Elsewhere,
 }
 
-/// The link of a path by which a file was opened of which the system says this: one of another user, among the folders of
-/// the path too, or the path itself, if `is_link` says so and it leads out of its folder. Where that can't be seen any
-/// more, it does.
+/// The link of a path by which a file was opened of which the system says this: one of another user, or one that leads out
+/// of its folder, among the folders of the path too. Where that can't be seen any more, it does.
 pub(crate) fn link_out<F: Files>(
     alloc: Global,
     files: &F,
     path: &str,
     opened: &Metadata,
-    is_link: bool,
 ) -> Result<FoundLink, AllocError> {
-    match way_of(alloc, files, path, opened)? {
+    let mut links = Vec::new(alloc);
+    match way_of(alloc, files, path, opened, &mut links)? {
         Way::Elsewhere => Ok(FoundLink::Elsewhere),
         Way::OfAnother => Ok(FoundLink::Out(LinkOut {
             target: target_of(alloc, files, path, opened),
             is_of_another: true,
         })),
-        Way::Trusted if is_link => out_of_folder(alloc, files, path, opened),
-        Way::Trusted => Ok(FoundLink::Nothing),
+        Way::Trusted if links.is_empty() => Ok(FoundLink::Nothing),
+        Way::Trusted => out_of_folders(alloc, files, path, opened, &links),
     }
 }
 
-/// The link of a path, if it leads out of its folder.
-fn out_of_folder<F: Files>(
+/// The link of a path, if the file stands neither in the folder of each of these links on its way, nor below it.
+fn out_of_folders<F: Files>(
     alloc: Global,
     files: &F,
     path: &str,
     opened: &Metadata,
+    links: &[String],
 ) -> Result<FoundLink, AllocError> {
     let target = target_of(alloc, files, path, opened);
-    if let Some(target) = &target
-        && is_below(alloc, files, path, target.as_str())?
-    {
-        return Ok(FoundLink::Nothing);
-    }
-    Ok(FoundLink::Out(LinkOut {
-        target,
-        is_of_another: false,
-    }))
+    let stays = match &target {
+        Some(target) => is_below_all(alloc, files, links, target.as_str())?,
+        None => false,
+    };
+    Ok(if stays {
+        FoundLink::Nothing
+    } else {
+        FoundLink::Out(LinkOut {
+            target,
+            is_of_another: false,
+        })
+    })
 }
 
 /// Where the way of a path leads now by which a file was opened, over the links among its folders, and over what each of
-/// them leads to.
+/// them leads to. The links that it goes over are added to `links`, but for folders that the system's root has linked.
 fn way_of<F: Files>(
     alloc: Global,
     files: &F,
     path: &str,
     opened: &Metadata,
+    links: &mut Vec<String>,
 ) -> Result<Way, AllocError> {
     let own = own_user(files);
     let mut place = String::from_str(alloc, path)?;
@@ -103,13 +107,19 @@ fn way_of<F: Files>(
             return Ok(end_of_way(files, &place, opened));
         };
         let link = place.get(..end).unwrap_or("");
-        if !is_link_of(files, link, opened.uid(), own) {
+        let rest = place.get(end..).unwrap_or("");
+        let Some(owner) = owner_of_link(files, link) else {
+            return Ok(Way::OfAnother);
+        };
+        if owner != opened.uid() && owner != ROOT && Some(owner) != own {
             return Ok(Way::OfAnother);
         }
         let Ok(target) = files.read_link(alloc, link) else {
             return Ok(Way::OfAnother);
         };
-        let rest = place.get(end..).unwrap_or("");
+        if owner != ROOT || own == Some(ROOT) || rest.is_empty() {
+            links.push(String::from_str(alloc, link)?)?;
+        }
         place = path_after_link(alloc, link, &target.into_string(), rest)?;
     }
     Ok(Way::OfAnother)
@@ -145,14 +155,11 @@ fn is_link_at<F: Files>(files: &F, path: &str) -> bool {
     }
 }
 
-/// Whether a path is that of a symbolic link of this user, of the one who runs this, or of root.
-fn is_link_of<F: Files>(files: &F, path: &str, user: u32, own: Option<u32>) -> bool {
+/// The user whose symbolic link a path is; None where it is none.
+fn owner_of_link<F: Files>(files: &F, path: &str) -> Option<u32> {
     match files.symlink_metadata(path) {
-        Ok(found) if found.is_symlink() => {
-            let owner = found.uid();
-            owner == user || owner == ROOT || Some(owner) == own
-        }
-        Ok(_) | Err(_) => false,
+        Ok(found) if found.is_symlink() => Some(found.uid()),
+        Ok(_) | Err(_) => None,
     }
 }
 
@@ -181,6 +188,21 @@ fn target_of<F: Files>(alloc: Global, files: &F, path: &str, opened: &Metadata) 
     } else {
         None
     }
+}
+
+/// Whether a target stands in the folder of each of these paths, or below it.
+fn is_below_all<F: Files>(
+    alloc: Global,
+    files: &F,
+    paths: &[String],
+    target: &str,
+) -> Result<bool, AllocError> {
+    for path in paths {
+        if !is_below(alloc, files, path.as_str(), target)? {
+            return Ok(false);
+        }
+    }
+    Ok(true)
 }
 
 /// Whether a target stands in the folder of a path, or below it.

@@ -86,13 +86,12 @@ impl<F: Files, R: Read> Inputs<'_, F, R> {
         if let Some(words) = kind_words(&metadata) {
             return refused(alloc, words);
         }
-        let is_link = match self.named(path, &metadata) {
-            Named::TheFile => false,
+        match self.named(path, &metadata) {
             Named::ALink if refuses_links => return refused(alloc, A_LINK),
-            Named::ALink => true,
             Named::AnotherFile => return refused(alloc, ANOTHER),
-        };
-        let link = match link_out(alloc, self.files, path, &metadata, is_link)? {
+            Named::TheFile | Named::ALink => {}
+        }
+        let link = match link_out(alloc, self.files, path, &metadata)? {
             FoundLink::Nothing => None,
             FoundLink::Out(link) => Some(link),
             FoundLink::Elsewhere => return refused(alloc, ANOTHER),

@@ -22,8 +22,8 @@ impl GradeNotes {
         }
     }
 
-    /// Notes that the submission of a place is a link out of its folder, or that a link on the way to it is of a user who
-    /// may not be able to read the file. Then it gets no page, which has its source.
+    /// Notes that a link on the way to the submission of a place leads out of its folder, or that it is of a user who may
+    /// not be able to read the file. Then the submission gets no page, which has its source.
     pub(crate) fn note_link(
         &mut self,
         place: usize,

@@ -35,10 +35,19 @@ pub(crate) struct Terminals {
     pub input: bool,
     /// Standard output.
     pub output: bool,
-    /// Standard error: then a search reports how far it is.
+    /// Standard error: then a search reports how far it is, if a line can be wiped there.
     pub errors: bool,
     /// The environment wants no colours.
     pub refuse_colours: bool,
+    /// They show no colours, and wipe no line.
+    pub are_plain: bool,
+}
+
+impl Terminals {
+    /// Whether the line that shows how far a search is may stand on standard error, and be wiped there.
+    fn shows_progress(self) -> bool {
+        self.errors && !self.are_plain
+    }
 }
 
 /// The standard streams that are written.
@@ -209,7 +218,7 @@ fn watch<X: Threads + Wait + Sync + Clock, F: Files, R: Read + Send, W: Write, E
     let mut console = Console {
         clock: rt,
         errors: &mut *outputs.errors,
-        is_terminal: outputs.terminals.errors,
+        is_terminal: outputs.terminals.shows_progress(),
         memory: outputs.memory,
     };
     let mut printer = Printer {
@@ -240,7 +249,7 @@ fn answer_whole<X: Threads + Wait + Sync + Clock, F: Files, R: Read, W: Write, E
     let mut console = Console {
         clock: rt,
         errors: &mut *outputs.errors,
-        is_terminal: outputs.terminals.errors,
+        is_terminal: outputs.terminals.shows_progress(),
         memory: outputs.memory,
     };
     let mut printer = Printer {

@@ -27,7 +27,8 @@ fn main(rt: HostRuntime) -> ExitCode {
         input: rt.stdin().is_terminal(),
         output: rt.stdout().is_terminal(),
         errors: rt.stderr().is_terminal(),
-        refuse_colours: refuses_colours(&rt),
+        refuse_colours: is_set(&rt, "NO_COLOR") || is_plain(&rt),
+        are_plain: is_plain(&rt),
     };
     let status = match words {
         Ok(words) => {
@@ -50,10 +51,10 @@ fn main(rt: HostRuntime) -> ExitCode {
     ExitCode::from(status)
 }
 
-/// Whether the environment says that nobody wants colours, or that the terminal shows none: NO_COLOR or INSIDE_EMACS is
-/// set, or TERM is not, or it is `dumb`. A variable that is empty is not set.
-fn refuses_colours(rt: &HostRuntime) -> bool {
-    is_set(rt, "NO_COLOR") || is_set(rt, "INSIDE_EMACS") || !is_set(rt, "TERM") || is_dumb(rt)
+/// Whether the environment says that the terminal shows no colours, and wipes no line: INSIDE_EMACS is set, or TERM is not,
+/// or it is `dumb`. A variable that is empty is not set.
+fn is_plain(rt: &HostRuntime) -> bool {
+    is_set(rt, "INSIDE_EMACS") || !is_set(rt, "TERM") || is_dumb(rt)
 }
 
 /// Whether a variable of the environment is set, and not empty.

@@ -7,7 +7,7 @@ ghost use Rattle.touched_words.specs.ClosedTables.{AreAmong};
 /// What each register holds, where that is known.
 pub(crate) type KnownRow = [Option<u64>; 32];
 
-/// How many words a table tells apart.
+/// How many words a table has at most.
 pub(crate) const MOST_WORDS: usize = 64;
 
 /// Which words are marked, in the order of the table's words.

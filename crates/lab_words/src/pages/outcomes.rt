@@ -1,7 +1,7 @@
 //! Pages of `explain`: docs/words/outcomes.txt. Made by docs/words/make.py.
 
 pub(crate) const TEXT: &str = r"= 1 PROGRAM
-Trap 1, PROGRAM: the pc is at or past the program's end.
+Trap 1, PROGRAM: the pc is past the program's end.
 
 What to do: end the stream by QUIT, or look which SKIP or JUMP goes too far.
 

@@ -316,7 +316,7 @@ fn row_after(row: &KnownRow, insn: &Insn) -> KnownRow {
     after
 }
 
-/// The places to which an instruction leads, as far as the program alone tells: none for JUMP, CALL and XCHG.
+/// The places to which an instruction leads, as far as the program alone shows: none for JUMP, CALL and XCHG.
 fn next_places(insn: &Insn, place: u32) -> [Option<u32>; 2] {
     let next = Some(place.wrapping_add(1));
     match insn {
