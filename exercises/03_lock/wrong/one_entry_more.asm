@@ -1,0 +1,15 @@
+; One .entry line too many.
+        .slim 1
+        .entry change
+        .entry change
+        .entry change
+        .data 0                 ; the lock
+        .data 0                 ; the number
+
+change: LOAD.S r0, r0, 0        ; takes the lock, or waits for it
+        LOAD.N r1, r0, 1
+        MUL r1, r1, 3
+        ADD r1, r1, 1
+        STORE.N r1, r0, 1
+        STORE.S r0, r0, 0       ; releases it
+        QUIT
