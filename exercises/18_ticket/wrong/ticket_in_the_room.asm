@@ -1,4 +1,4 @@
-; Takes the ticket behind the label of the room.
+; Takes the ticket after the label of the room.
         .slim 1
         .entry enter
         .entry enter
