@@ -34,7 +34,7 @@ pub record IsTakenUnseen (R : World → World → Type 0) (P : World → Type 0)
   pub unseen : IsUnseen P v.image (v.world from) step
 
 -- Those of a set are taken from the world at this place, which can be taken before all others. One of them leads to a
--- later place, and can't be seen after schedules of others.
+-- later place, and can't be seen behind schedules of others.
 pub record IsTakenTogetherUnseen (R : World → World → Type 0) (P : World → Type 0) (v : FoundWorlds) (from : ℕ) : Type 0 where
   pub together : IsTakenTogether R v from
   pub step : Step
