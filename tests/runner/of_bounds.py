@@ -1,4 +1,5 @@
-"""Bounds of a search, and the line that tells how far it is: on a terminal alone, and wiped when the answer comes."""
+"""Bounds of a search, and the line that tells how far it is: on a terminal that wipes lines, and wiped when the answer
+comes."""
 
 import json
 import os
@@ -15,7 +16,7 @@ from of_lab import lab
 COUNTS = b".entry more\n.data 0\nmore: ADD r1, r1, 1\n SKIP ALWAYS, 0, more\n"
 # so long that the line is told, on a busy machine too
 SECONDS = "4"
-TOLD = rb"\r(\d+) states, (\d+) still to explore, (\d+) a second, (\d+) MB\x1b\[K"
+TOLD = rb"\r(\d+) states?, (\d+) still to explore, (\d+) a second, (\d+) MB\x1b\[K"
 WIPED = b"\r\x1b[K"
 # what a search says that its time has ended, with N for each number
 ENDED = "some schedules: N states explored, N steps, not complete, ended by --seconds: nothing is said of the others\n"
@@ -29,6 +30,8 @@ def bounds():
         yield "megabytes", True, by_memory(path)
         yield "seconds", (5, b"", ENDED), by_seconds(path)
         yield "a terminal", True, on_terminal(path)
+        for name, value in ("TERM", "dumb"), ("TERM", None), ("INSIDE_EMACS", "29.4,comint"):
+            yield f"a terminal that wipes no line, {name} {value}", (5, b""), plain(path, **{name: value})
         yield "a terminal and a search that is soon done", (0, b""), soon_done()
         yield "no terminal", (5, b""), elsewhere(path)
 
@@ -48,10 +51,13 @@ def by_seconds(path):
     return ended.status, ended.err, says
 
 
-def with_terminal(*words):
-    """The status of a call, what it printed, and what it wrote to standard error, a terminal."""
+def with_terminal(*words, **environment):
+    """The status of a call, what it printed, and what it wrote to standard error, a terminal; by these variables, of which
+    None takes one away."""
+    wanted = {**os.environ, "INSIDE_EMACS": None, "TERM": "xterm", **environment}
+    variables = {name: value for name, value in wanted.items() if value is not None}
     ours, theirs = pty.openpty()
-    with subprocess.Popen([tool.LAB, *words], stdin=subprocess.DEVNULL, stdout=subprocess.PIPE, stderr=theirs) as process:
+    with subprocess.Popen([tool.LAB, *words], stdin=subprocess.DEVNULL, stdout=subprocess.PIPE, stderr=theirs, env=variables) as process:
         os.close(theirs)
         told = b""
         try:
@@ -74,6 +80,12 @@ def on_terminal(path):
     short = all(len(line[0]) < 80 for line in lines)
     holds = status == 5 and told == whole and rises and short and b"\r" not in out and b"--seconds" in out
     return holds or (status, out, told)
+
+
+def plain(path, **environment):
+    """Where the environment says that a terminal wipes no line."""
+    status, _, told = with_terminal("explore", path, "--seconds", "2", "--states", "1000000000", **environment)
+    return status, told
 
 
 def soon_done():

@@ -177,7 +177,7 @@ def old_pages():
 
 @checks.others("grade/links_out")
 def links_out():
-    """A link out of its folder is named; a link of another user, who may not read the file, gets no page."""
+    """A link out of its folder is named, of a folder too; a link of another user, who may not read the file, gets no page."""
     with tempfile.TemporaryDirectory(prefix="mta-case-") as folder:
         made(folder, "w.expect", b"word 0 1\n")
         made(folder, "other/secret.asm", WRONG)
@@ -193,6 +193,11 @@ def links_out():
         ended = lab(*call[:5], "--no-links", "in/own.asm", "in/near.asm", "by/own.asm", "in/out.asm", folder=folder)
         yield "no links", ["wrong", "not read", "wrong", "not read"], [
             it.split("\t")[1] for it in ended.out.decode().splitlines()[1:]]
+        os.symlink("..", os.path.join(folder, "in/up"))
+        os.symlink("../other", os.path.join(folder, "in/dir"))
+        for path in ("in/up/other/secret.asm", "in/dir/secret.asm"):
+            ended = lab(*call[:5], path, folder=folder)
+            yield f"a folder on the way to {path}", (3, (said.replace("in/out.asm", path) + "\n").encode()), (ended.status, ended.err)
         if os.geteuid() == 0:
             yield from links_of_another(folder, call)
 
