@@ -2,4 +2,5 @@ pub mod Resting
 pub mod Meeting
 pub mod Apart
 pub mod Members
+pub mod ZeroRegisters
 pub mod NeverForwarded

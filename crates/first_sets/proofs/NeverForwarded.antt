@@ -1,15 +1,17 @@
--- Where no word of an image has the forward bit and no instruction is TAGSET, no word ever has it.
+-- Where no word of an image has the forward bit and no instruction is a TAGSET of another register than r0, no word ever
+-- has it.
 use Rattle.std.proofs.Common.{◌≡◌, ℕ, zero, suc, ◌/◌, ◌%◌, ◌==◌, Bool, true, false, refl, sym, ap, ◌∙◌, subst}
 use Rattle.std.proofs.Common.{if◌then◌else◌, List, [], ◌∷◌, Option, Some, None, slice_get}
 use Rattle.std.specs.List.{list_any}
-use Rattle.std.proofs.lemmas.Bool.{or_parts}
+use Rattle.std.specs.Prelude.{◌&&◌, not}
+use Rattle.std.proofs.lemmas.Bool.{or_parts, eqb-true, not-false}
 use Rattle.insn_word.specs.Reading.{instruction_in}
 use Rattle.insn_word.specs.declared.operations.MemoryOp.{MemoryOp}
 use Rattle.insn_word.specs.declared.operations.MemoryOp.TheVariants as memory
 use Rattle.insn_word.specs.declared.insn.MPart.{MPart}
 use Rattle.insn_word.specs.declared.insn.Insn.{Insn}
 use Rattle.insn_word.specs.declared.insn.Insn.TheVariants.{Wide, Normal}
-use Rattle.tag_memory.specs.Cell.{Cell}
+use Rattle.tag_memory.specs.Cell.{Cell, has_bit}
 use Rattle.tag_memory.specs.Storage.{TaggedMemory}
 use Rattle.tag_memory.specs.Unforwarded.{IsUnforwarded, sets_forward}
 use Rattle.tag_memory.specs.declared.requests.Request.{Request}
@@ -31,6 +33,8 @@ use Rattle.processor.specs.declared.steps.Step.{Step}
 use Rattle.processor.proofs.Begun.{request_begun}
 use Rattle.processor.proofs.Histories.{after-absent}
 use Rattle.local_steps.proofs.Commuting.{after_there}
+use Rattle.stream_core.specs.Registers.{register_at}
+use Rattle.first_sets.proofs.ZeroRegisters.{IsZero, AreAllZero, after_zero, start_zero}
 use Rattle.first_sets.specs.NoForwardBits.{is_tag_set, sets_tags, sets_tags_if, word_sets_tags, may_forward}
 
 -- what holds of none of a list holds of no element of it
@@ -55,22 +59,25 @@ of_one r none q e = ap (λ (x : Request). sets_forward x.op x.value) (sym (some_
 of_none : SetsNone None
 of_none q e = cc
 
-not_so : true ≡ false → ⊥
-not_so e = cc
+-- a TAGSET of r0 sets no tag
+of_zero : (rs : List ℕ) (rd : ℕ) → register_at rs 0 ≡ 0 → not (rd == 0) ≡ false → has_bit (register_at rs rd % 16) 1 ≡ false
+of_zero rs rd is e =
+    ap (λ r. has_bit (register_at rs r % 16) 1) (eqb-true rd 0 (not-false (rd == 0) e)) ∙ ap (λ n. has_bit (n % 16) 1) is
 
-by_none : (s : StreamValue) (m : MPart) (o : MemoryOp) → is_tag_set o ≡ false → SetsNone (request_by s m o)
-by_none s m memory.Nop e = of_none
-by_none s m memory.Load e = of_one _ refl
-by_none s m memory.Store e = of_one _ refl
-by_none s m memory.FetchAdd e = of_one _ refl
-by_none s m memory.TagGet e = of_one _ refl
-by_none s m memory.TagSet e = absurd (not_so e)
-by_none s m memory.Purge e = of_one _ refl
+by_none : (s : StreamValue) (m : MPart) (o : MemoryOp) → IsZero s → (is_tag_set o && not (m.rd == 0)) ≡ false
+    → SetsNone (request_by s m o)
+by_none s m memory.Nop is e = of_none
+by_none s m memory.Load is e = of_one _ refl
+by_none s m memory.Store is e = of_one _ refl
+by_none s m memory.FetchAdd is e = of_one _ refl
+by_none s m memory.TagGet is e = of_one _ refl
+by_none s m memory.TagSet is e = of_one _ (of_zero s.registers m.rd is e)
+by_none s m memory.Purge is e = of_one _ refl
 
-of_instruction : (s : StreamValue) (i : Insn) → sets_tags i ≡ false → SetsNone (request_of s i)
+of_instruction : (s : StreamValue) (i : Insn) → IsZero s → sets_tags i ≡ false → SetsNone (request_of s i)
 unfolding request_of
-of_instruction s (Wide look op reg imm) e = of_none
-of_instruction s (Normal look m a c) e = by_none s m m.op e
+of_instruction s (Wide look op reg imm) is e = of_none
+of_instruction s (Normal look m a c) is e = by_none s m m.op is e
 
 -- whether what stands at the pc is TAGSET
 abbrev fetch_sets : Fetch → Bool
@@ -78,10 +85,10 @@ fetch_sets fetch.Rest = false
 fetch_sets (fetch.Trap k) = false
 fetch_sets (fetch.Instruction i) = sets_tags i
 
-of_fetch : (s : StreamValue) (f : Fetch) → fetch_sets f ≡ false → SetsNone (request_on_fetch s f)
-of_fetch s fetch.Rest e = of_none
-of_fetch s (fetch.Trap k) e = of_none
-of_fetch s (fetch.Instruction i) e = of_instruction s i e
+of_fetch : (s : StreamValue) (f : Fetch) → IsZero s → fetch_sets f ≡ false → SetsNone (request_on_fetch s f)
+of_fetch s fetch.Rest is e = of_none
+of_fetch s (fetch.Trap k) is e = of_none
+of_fetch s (fetch.Instruction i) is e = of_instruction s i is e
 
 kept : (m : TaggedMemory) (o : Option Request) → SetsNone o → IsUnforwarded m → IsUnforwarded (memory_reply m o).0
 kept m None none un = un
@@ -130,25 +137,26 @@ module _ (image : ImageValue) (without : may_forward image ≡ false) where
   unfolding step_fetch_of
   begins_fine proc n = step_fine proc (slice_get proc.streams n)
 
-  over_fine : (proc : ProcessorValue) (n : ℕ) (m : TaggedMemory) → IsUnforwarded m
+  over_fine : (proc : ProcessorValue) (n : ℕ) (m : TaggedMemory) → IsZero (stream_at proc.streams n) → IsUnforwarded m
       → IsUnforwarded (row_over_memory image proc n m).1
   unfolding row_over_memory
-  over_fine proc n m un =
+  over_fine proc n m is un =
       kept m (request image proc n)
       (subst SetsNone (sym (request_begun image proc n (step_fetch_of image proc n) refl))
-      (of_fetch (stream_at proc.streams n) (step_fetch_of image proc n) (begins_fine proc n)))
+      (of_fetch (stream_at proc.streams n) (step_fetch_of image proc n) is (begins_fine proc n)))
       un
 
-  after_fine : (w : World) (t : Step) → IsUnforwarded w.memory → IsUnforwarded (after image w t).memory
-  after_fine w t un = by (slice_get w.processors t.p) refl where
+  after_fine : (w : World) (t : Step) → AreAllZero w → IsUnforwarded w.memory → IsUnforwarded (after image w t).memory
+  after_fine w t zeros un = by (slice_get w.processors t.p) refl where
     by : (o : Option ProcessorValue) → slice_get w.processors t.p ≡ o → IsUnforwarded (after image w t).memory
     by None none = subst (λ (v : World). IsUnforwarded v.memory) (sym (after-absent image w t none)) un
     by (Some proc) at =
-        subst (λ (v : World). IsUnforwarded v.memory) (sym (after_there image w t proc at)) (over_fine proc t.s w.memory un)
+        subst (λ (v : World). IsUnforwarded v.memory) (sym (after_there image w t proc at))
+        (over_fine proc t.s w.memory (zeros t.p proc at t.s) un)
 
-  steps_fine : (ts : List Step) (w : World) → IsUnforwarded w.memory → IsUnforwarded (steps image w ts).memory
-  steps_fine [] w un = un
-  steps_fine (t ∷ ts) w un = steps_fine ts (after image w t) (after_fine w t un)
+  steps_fine : (ts : List Step) (w : World) → AreAllZero w → IsUnforwarded w.memory → IsUnforwarded (steps image w ts).memory
+  steps_fine [] w zeros un = un
+  steps_fine (t ∷ ts) w zeros un = steps_fine ts (after image w t) (after_zero image w t zeros) (after_fine w t zeros un)
 
   start_fine : IsUnforwarded (start image).memory
   unfolding start
@@ -157,4 +165,4 @@ module _ (image : ImageValue) (without : may_forward image ≡ false) where
       (there (a % 8 == 0) (slice_get image.cells (a / 8)) c got)
 
   pub never_forwarded : (ts : List Step) → IsUnforwarded (run image ts).memory
-  never_forwarded ts = steps_fine ts (start image) start_fine
+  never_forwarded ts = steps_fine ts (start image) (start_zero image) start_fine

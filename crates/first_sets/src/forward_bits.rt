@@ -12,8 +12,8 @@ use image_file::Image;
 use insn_word::{Insn, MemoryOp, Profile, decode_as};
 use tag_memory::Word;
 
-/// Whether some word of an image's memory has the forward bit, or some instruction of its program is TAGSET. Where neither
-/// is so, no word has the bit after any schedule ("Forwarding", docs/MACHINE.md).
+/// Whether some word of an image's memory has the forward bit, or some instruction of its program is a TAGSET of another
+/// register than r0. Where neither is so, no word has the bit after any schedule ("Forwarding", docs/MACHINE.md).
 #[tactic(auto, using(crate::proofs::NeverForwarded::never_forwarded), unfolding(crate::specs::NoForwardBits::may_forward))]
 pub fn may_forward(image: &Image) -> bool
     ensures is { result ≡ may_forward image.now }
@@ -33,7 +33,7 @@ fn any_forward(cells: &[Word]) -> bool
     )
 }
 
-/// Whether some word of a program is TAGSET.
+/// Whether some word of a program is such a TAGSET.
 fn any_sets_tags(profile: Profile, program: &[u64]) -> bool
     ensures { result ≡ list_any (word_sets_tags profile) program.now }
 {
@@ -44,7 +44,7 @@ fn any_sets_tags(profile: Profile, program: &[u64]) -> bool
     )
 }
 
-/// Whether a word spells an instruction that has TAGSET.
+/// Whether a word spells an instruction that has one.
 fn word_sets_tags(profile: Profile, word: u64) -> bool
     ensures { result ≡ word_sets_tags profile word }
 {
@@ -54,14 +54,14 @@ fn word_sets_tags(profile: Profile, word: u64) -> bool
     }
 }
 
-/// Whether an instruction has TAGSET.
+/// Whether an instruction has TAGSET of another register than r0.
 fn sets_tags(insn: &Insn) -> bool
     ensures { result ≡ sets_tags insn.now }
 {
     match insn {
         Insn::Wide { .. } => false,
         Insn::Normal { m, .. } => match m.op {
-            MemoryOp::TagSet => true,
+            MemoryOp::TagSet => m.rd != 0,
             MemoryOp::Nop
             | MemoryOp::Load
             | MemoryOp::Store

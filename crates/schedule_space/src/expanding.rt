@@ -15,6 +15,8 @@ use crate::kept_machines::KeptMachines;
 use crate::links::{Edge, Link};
 use crate::quiet::is_quiet_step;
 use agreeing_ends::local::is_free_step;
+use first_sets::apart_set;
+use touched_words::TouchTable;
 use processor::Step;
 
 /// What a search looks for.
@@ -38,6 +40,7 @@ impl<'i> Found<'i> {
         wanted: Wanted,
         looked_at: &[bool],
         settled: &[bool],
+        tables: Option<&[TouchTable]>,
         most: u32,
     ) -> Result<(), Stop>
         requires expanding { IsExpanding self.old from most }
@@ -55,7 +58,7 @@ impl<'i> Found<'i> {
         let running = self.running_at(from)?;
         match wanted {
             Wanted::Worlds => self.take_all(machines, from, &running, most),
-            Wanted::Ends => { self.take_enough(machines, from, &running, looked_at, settled, most) }
+            Wanted::Ends => { self.take_enough(machines, from, &running, looked_at, settled, tables, most) }
         }
     }
 
@@ -69,6 +72,7 @@ impl<'i> Found<'i> {
         running: &[Step],
         looked_at: &[bool],
         settled: &[bool],
+        tables: Option<&[TouchTable]>,
         most: u32,
     ) -> Result<(), Stop>
         requires expanding { IsExpanding self.old from most }
@@ -89,6 +93,27 @@ impl<'i> Found<'i> {
             let is_later = self.take_free(machines, link, &mut others, looked_at, settled, most)?;
             if is_later {
                 return Ok(());
+            }
+        }
+        if let Some(tables) = tables {
+            self.make_here(machines, from)?;
+            let here = machines.here().unwrap();
+            if let Some(set) = apart_set(self.alloc, here, tables, running)? {
+                let mut is_later = false;
+                for step in set.iter() {
+                    let to = self.take(machines, Link { from, step: *step }, false, most)?;
+                    is_later = is_later || to > from;
+                }
+                if is_later {
+                    return Ok(());
+                }
+                let mut rest = Vec::new(self.alloc);
+                for step in others.iter() {
+                    if !set.contains(step) {
+                        rest.push(*step)?;
+                    }
+                }
+                return self.take_all(machines, from, &rest, most);
             }
         }
         self.take_all(machines, from, &others, most)

@@ -16,6 +16,8 @@ use crate::kept_machines::KeptMachines;
 use crate::spaces::Space;
 use crate::watches::{Bound, Watch};
 use agreeing_ends::local::settled_places;
+use first_sets::may_forward;
+use touched_words::TouchTable;
 use image_file::Image;
 use machine::{LoadFault, Machine};
 use processor::{Processor, Step};
@@ -162,6 +164,13 @@ fn search<'i, const S: usize, W: Watch>(
     first.run(begin);
     let live = LiveRegisters::of(alloc, image, names)?;
     let settled = settled_places(alloc, image)?;
+    let mut tables = Vec::new(alloc);
+    let is_by_sets = wanted == Wanted::Ends && looked_at.is_empty() && !may_forward(image);
+    if is_by_sets {
+        for p in 0..image.processors() {
+            tables.push(TouchTable::of(alloc, image, image.entry(p).unwrap_or(0))?)?;
+        }
+    }
     let mut found = Found::begin(alloc, begin, &first, live, wanted)?;
     let mut machines = KeptMachines::new(alloc, first);
     let limit = world_limit(most);
@@ -173,7 +182,7 @@ fn search<'i, const S: usize, W: Watch>(
         if !is_to_go_on(watch, from, &found, &machines, machine_size) {
             return Ok(Exploration::Bounded(found.into_space(), Bound::Watch));
         }
-        let expanded = found.expand(&mut machines, from, wanted, looked_at, &settled, limit);
+        let expanded = found.expand(&mut machines, from, wanted, looked_at, &settled, if is_by_sets { Some(&tables) } else { None }, limit);
         if let Err(stop) = expanded {
             return Ok(Exploration::Bounded(found.into_space(), bound_of(stop)));
         }
