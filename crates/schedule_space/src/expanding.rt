@@ -8,16 +8,18 @@ ghost use Rattle.schedule_space.specs.Spaces.{world_of, AreAllDifferent};
 ghost use Rattle.schedule_space.specs.Kept.{AreKept, AreKeptAt};
 ghost use Rattle.schedule_space.specs.Finding.{IsGrown, IsTaken, IsTakenTo, IsExpanded, IsExpanding, HasRunning};
 ghost use Rattle.schedule_space.specs.Finding.{HasNoEdge, HaveNoEdges, IsFullAt};
-ghost use Rattle.schedule_space.specs.Quiet.{IsTakenQuietly, IsFollowedQuietly};
+ghost use Rattle.schedule_space.specs.Quiet.{IsTakenQuietly, IsFollowedBy};
+ghost use Rattle.tag_memory.specs.Unforwarded.{IsUnforwarded};
+ghost use Rattle.touched_words.specs.ClosedTables.{IsClosedTable};
+ghost use Rattle.first_sets.specs.ApartSets.{table_at};
 
 use crate::finding::{Found, Stop};
 use crate::kept_machines::KeptMachines;
 use crate::links::{Edge, Link};
 use crate::quiet::is_quiet_step;
 use agreeing_ends::local::is_free_step;
-use first_sets::apart_set;
-use touched_words::TouchTable;
 use processor::Step;
+use touched_words::TouchTable;
 
 /// What a search looks for.
 #[derive(Clone, Copy, Debug, PartialEq, Eq)]
@@ -32,7 +34,8 @@ impl<'i> Found<'i> {
     /// Takes steps of the world at a place, unless there would be more than `most` worlds: each one,
     /// or where ends are wanted and a step that can be taken before all others (`is_free_step`, by the `settled` places),
     /// and that nobody sees who looks at the places in `looked_at` alone (`is_quiet_step`), leads to a later place, that
-    /// one.
+    /// one. With tables of what streams may still ask for, where nobody looks on, it may be those of a set
+    /// (`take_set_or_all`).
     pub(crate) fn expand<const S: usize>(
         &mut self,
         machines: &mut KeptMachines<'i, S>,
@@ -40,25 +43,33 @@ impl<'i> Found<'i> {
         wanted: Wanted,
         looked_at: &[bool],
         settled: &[bool],
-        tables: Option<&[TouchTable]>,
+        by_sets: bool,
+        tables: &[TouchTable],
         most: u32,
     ) -> Result<(), Stop>
         requires expanding { IsExpanding self.old from most }
         requires edges { (e : Edge) → Contains self.old.edges e → e.from < from }
         requires machines { AreKept self.old machines.old }
         requires settled { AreSettled self.old.image settled.now }
+        requires closed { by_sets ≡ true → (p : ℕ)
+            → IsClosedTable self.old.image.profile self.old.image.program (table_at tables.now p) }
+        requires unforwarded { by_sets ≡ true → IsUnforwarded (world_of self.old from).memory }
         ensures grown { IsGrown self.old self.new }
         ensures expanding { IsExpanding self.new from most }
         ensures full { result ≡ Err Stop.Full → IsFullAt self.new from most }
         ensures machines { OnOk result (AreKept self.new machines.new) }
-        ensures quiet { OnOk result (IsFollowedQuietly looked_at.now self.new from) }
+        ensures followed { OnOk result (IsFollowedBy by_sets looked_at.now self.new from) }
         ensures expanded { wanted ≡ Wanted.Worlds → OnOk result (IsExpanded self.new from) }
     {
         machines.go_to(from);
         let running = self.running_at(from)?;
         match wanted {
             Wanted::Worlds => self.take_all(machines, from, &running, most),
-            Wanted::Ends => { self.take_enough(machines, from, &running, looked_at, settled, tables, most) }
+            Wanted::Ends => {
+                self.take_enough(
+                    machines, from, &running, looked_at, settled, by_sets, tables, most,
+                )
+            }
         }
     }
 
@@ -72,7 +83,8 @@ impl<'i> Found<'i> {
         running: &[Step],
         looked_at: &[bool],
         settled: &[bool],
-        tables: Option<&[TouchTable]>,
+        by_sets: bool,
+        tables: &[TouchTable],
         most: u32,
     ) -> Result<(), Stop>
         requires expanding { IsExpanding self.old from most }
@@ -81,11 +93,14 @@ impl<'i> Found<'i> {
         requires once { AreAllDifferent running.now }
         requires new { HaveNoEdges self.old from running.now }
         requires settled { AreSettled self.old.image settled.now }
+        requires closed { by_sets ≡ true → (p : ℕ)
+            → IsClosedTable self.old.image.profile self.old.image.program (table_at tables.now p) }
+        requires unforwarded { by_sets ≡ true → IsUnforwarded (world_of self.old from).memory }
         ensures grown { IsGrown self.old self.new }
         ensures expanding { IsExpanding self.new from most }
         ensures full { result ≡ Err Stop.Full → IsFullAt self.new from most }
         ensures machines { OnOk result (AreKeptAt self.new machines.new from) }
-        ensures quiet { OnOk result (IsFollowedQuietly looked_at.now self.new from) }
+        ensures followed { OnOk result (IsFollowedBy by_sets looked_at.now self.new from) }
     {
         let mut others = Vec::new(self.alloc);
         for step in running {
@@ -95,26 +110,8 @@ impl<'i> Found<'i> {
                 return Ok(());
             }
         }
-        if let Some(tables) = tables {
-            self.make_here(machines, from)?;
-            let here = machines.here().unwrap();
-            if let Some(set) = apart_set(self.alloc, here, tables, running)? {
-                let mut is_later = false;
-                for step in set.iter() {
-                    let to = self.take(machines, Link { from, step: *step }, false, most)?;
-                    is_later = is_later || to > from;
-                }
-                if is_later {
-                    return Ok(());
-                }
-                let mut rest = Vec::new(self.alloc);
-                for step in others.iter() {
-                    if !set.contains(step) {
-                        rest.push(*step)?;
-                    }
-                }
-                return self.take_all(machines, from, &rest, most);
-            }
+        if by_sets {
+            return self.take_set_or_all(machines, from, running, &others, tables, most);
         }
         self.take_all(machines, from, &others, most)
     }
@@ -158,7 +155,7 @@ impl<'i> Found<'i> {
     }
 
     /// Takes each of these steps; the last one may take the machine of the place itself.
-    fn take_all<const S: usize>(
+    pub(crate) fn take_all<const S: usize>(
         &mut self,
         machines: &mut KeptMachines<'i, S>,
         from: u32,
@@ -175,15 +172,43 @@ impl<'i> Found<'i> {
         ensures machines { OnOk result (AreKeptAt self.new machines.new from) }
         ensures taken { OnOk result ((t : Step) → Contains steps.now t → IsTaken self.new from t) }
     {
+        self.take_each(machines, from, steps, true, most)?;
+        Ok(())
+    }
+
+    /// Takes each of these steps, and says whether one leads to a later place. The last one may take the machine of the place
+    /// itself, where it is let go.
+    pub(crate) fn take_each<const S: usize>(
+        &mut self,
+        machines: &mut KeptMachines<'i, S>,
+        from: u32,
+        steps: &[Step],
+        is_let_go: bool,
+        most: u32,
+    ) -> Result<bool, Stop>
+        requires expanding { IsExpanding self.old from most }
+        requires machines { AreKeptAt self.old machines.old from }
+        requires once { AreAllDifferent steps.now }
+        requires new { HaveNoEdges self.old from steps.now }
+        ensures grown { IsGrown self.old self.new }
+        ensures expanding { IsExpanding self.new from most }
+        ensures full { result ≡ Err Stop.Full → IsFullAt self.new from most }
+        ensures machines { OnOk result (AreKeptAt self.new machines.new from) }
+        ensures taken { OnOk result ((t : Step) → Contains steps.now t → IsTaken self.new from t) }
+        ensures edges { OnOk result ((t : Step) → ¬ (Contains steps.now t) → HasNoEdge self.old from t
+            → HasNoEdge self.new from t) }
+    {
+        let mut is_later = false;
         for place in 0..steps.len() {
             let link = Link {
                 from,
                 step: steps[place],
             };
-            let is_last = place + 1 == steps.len();
-            self.take(machines, link, is_last, most)?;
+            let is_last = is_let_go && place + 1 == steps.len();
+            let to = self.take(machines, link, is_last, most)?;
+            is_later = is_later || to > from;
         }
-        Ok(())
+        Ok(is_later)
     }
 
     /// Takes one step, and says to which place it leads. Where the machine is let go it is still there unless that is a

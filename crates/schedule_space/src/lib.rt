@@ -17,9 +17,10 @@ mod reaching;
 mod routes;
 mod spaces;
 mod stepping;
+mod together;
 mod watches;
 
-pub use explorations::{Exploration, explore, explore_ends};
+pub use explorations::{Exploration, explore, explore_ends, explore_ends_by_sets};
 pub use fates::Fate;
 pub use links::{Edge, Link};
 pub use machines::machine_at;

@@ -9,7 +9,7 @@ use Rattle.schedule_space.specs.Finding.{IsExpanding, HasNoEdge, HaveNoEdges}
 use Rattle.schedule_space.proofs.Different.{different_same, no_edges_at, no_edges_next, waiting_none, waiting_next}
 use Rattle.schedule_space.proofs.Growing.{grown_refl, grown_trans}
 use Rattle.schedule_space.proofs.Taking.{AreAllTaken, IsTakenOrWaits, waits_next}
-use Rattle.schedule_space.proofs.Alone.{expanded_if, followed_if, waiting_taken}
+use Rattle.schedule_space.proofs.Alone.{expanded_if, followed_if, quiet_by, waiting_taken}
 use Rattle.schedule_space.proofs.finding.Found.take_enough.Goals as goal
 
 pub take_free-requires : goal.take_free-requires
@@ -47,7 +47,7 @@ returns-then-is_later g c = record {
   expanding = c.take_free.ensures.expanding;
   full = λ e. absurd cc;
   machines = c.in_ok-is_later.ensures.machines;
-  quiet = inr (c.in_ok-is_later.ensures.alone c.if-is_later.true);
+  followed = quiet_by c.args.by_sets c.args.looked_at.now c.take_free.new.self c.args.from (c.in_ok-is_later.ensures.alone c.if-is_later.true);
 }
 
 pub loop-step-preserved : goal.loop-step-preserved
@@ -96,8 +96,8 @@ returns g c = record {
   expanding = c.take_all.ensures.expanding;
   full = c.take_all.ensures.full;
   machines = c.take_all.ensures.machines;
-  quiet =
-      followed_if c.take_all.result c.args.looked_at.now c.take_all.new.self c.args.from
+  followed =
+      followed_if c.take_all.result c.args.by_sets c.args.looked_at.now c.take_all.new.self c.args.from
       (expanded_if c.take_all.result c.args.self.now c.take_all.new.self c.args.from
       c.args.running.now
       (grown_trans c.args.self.now c.loop-step.self c.take_all.new.self c.loop-step.invariant.grown c.take_all.ensures.grown)
