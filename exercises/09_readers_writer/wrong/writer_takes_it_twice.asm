@@ -21,7 +21,7 @@ write:  LOAD.S r0, r0, 2
 read1:  LIT r7, 32
         SKIP ALWAYS, 0, read
 read2:  LIT r7, 48
-read:   LOAD.N r5, r0, 0        
+read:   LOAD.N r5, r0, 0
         LOAD.N r6, r0, 1
         STORE.N r5, r7, 0
         STORE.N r6, r7, 1
