@@ -9,7 +9,7 @@ use Rattle.same_futures.specs.LocalSteps.FreeSteps.{IsFreeStep}
 use Rattle.agreeing_ends.specs.FirstSets.{AreOutside}
 use Rattle.agreeing_ends.specs.Followed.{FoundWorlds, IsTaken, IsExpanded, IsTakenTogether, world_after}
 
--- Worlds that are alike still are behind the same schedule, where one of them was found.
+-- Worlds that are alike still are after the same schedule, where one of them was found.
 pub record IsMoving (R : World → World → Type 0) (v : FoundWorlds) : Type 0 where
   pub on : (k : ℕ) → k < v.count → (w : World) (ts : List Step) → R (v.world k) w
       → R (steps v.image (v.world k) ts) (steps v.image w ts)
@@ -19,7 +19,7 @@ abbrev pub AreOthers : Step → List Step → Type 0
 AreOthers t [] = ⊤
 AreOthers t (u ∷ us) = (u ≢ t) × AreOthers t us
 
--- Where what is claimed holds behind the step it holds before it, in the world and wherever other steps lead from there.
+-- Where what is claimed holds after the step it holds before it, in the world and wherever other steps lead from there.
 abbrev pub IsUnseen : (World → Type 0) → ImageValue → World → Step → Type 0
 IsUnseen P image w t =
     (ts : List Step) → AreOthers t ts → P (after image (steps image w ts) t) → P (steps image w ts)
@@ -34,7 +34,7 @@ pub record IsTakenUnseen (R : World → World → Type 0) (P : World → Type 0)
   pub unseen : IsUnseen P v.image (v.world from) step
 
 -- Those of a set are taken from the world at this place, which can be taken before all others. One of them leads to a
--- later place, and can't be seen behind schedules of others.
+-- later place, and can't be seen after schedules of others.
 pub record IsTakenTogetherUnseen (R : World → World → Type 0) (P : World → Type 0) (v : FoundWorlds) (from : ℕ) : Type 0 where
   pub together : IsTakenTogether R v from
   pub step : Step
