@@ -1,24 +1,28 @@
 """The search for ends alone, by the rules of docs/LAB_REFERENCE.md ("Every schedule"): of worlds that differ in registers alone that
 nobody reads again, and in condition codes that nobody asks for again, one is kept, and a step that concerns nobody else, and
-at which no claim looks, is taken alone where it leads to a later world."""
+at which no claim looks, is taken alone where it leads to a later world. So are, where nothing is claimed, the steps of a set
+that no other stream comes to meet."""
 
 import collections
 
 import machine
 from asking import Asking
+from first_sets import FirstSets
 from liveness import ALL, Liveness
 from settled import Settled
 
 
 class EndsAlone:
     """The worlds that the search looks at, and between which places steps lead; registers that are named are kept, claims
-    look at the places in `looked_at`, and `most` is how many worlds there may be."""
+    look at the places in `looked_at`, None where nothing is claimed, and `most` is how many worlds there may be."""
 
-    def __init__(self, program, begin, named, most, looked_at=()):
-        self.program, self.named, self.most, self.looked_at = program, frozenset(named), most, frozenset(looked_at)
+    def __init__(self, program, begin, named, most, looked_at=None):
+        self.program, self.named, self.most = program, frozenset(named), most
+        self.looked_at, self.by_sets = frozenset(looked_at or ()), looked_at is None
         self.live = Liveness(program)
         self.asking = Asking(program, self.live.is_handled)
         self.settled = Settled(program)
+        self.first_sets = FirstSets(program)
         world = machine.start(program)
         for p, s in begin:
             world, _ = machine.step(program, world, p, s)
@@ -66,8 +70,11 @@ class EndsAlone:
                 others.append((p, s))
             elif self.take(at, p, s) > at:
                 return
-        for p, s in others:
-            self.take(at, p, s)
+        found = self.first_sets.least(world) if self.by_sets else None
+        first = [step for step in others if step in found] if found else others
+        if not max([self.take(at, p, s) > at for p, s in first], default=False):
+            for p, s in [step for step in others if step not in first]:
+                self.take(at, p, s)
 
     def take(self, at, p, s):
         """Takes a step, and says to which place it leads."""

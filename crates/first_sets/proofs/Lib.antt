@@ -4,3 +4,4 @@ pub mod Apart
 pub mod Members
 pub mod ZeroRegisters
 pub mod NeverForwarded
+pub mod OneMore

@@ -70,7 +70,7 @@ fn is_blocked(reply: Reply) -> bool
 }
 
 /// The request that a step makes, where it executes an instruction that makes one and asks for no stream.
-fn request_of<const S: usize>(machine: &Machine<'_, S>, step: Step) -> Option<Request>
+pub(crate) fn request_of<const S: usize>(machine: &Machine<'_, S>, step: Step) -> Option<Request>
     ensures { IfSome result (λ q. (s : StreamValue) × IsRequestStep machine.now.image machine.now.world step s (Some q)) }
 {
     let image = machine.image();
@@ -164,7 +164,7 @@ fn is_kept_off<const S: usize>(
 }
 
 /// Whether a step is one of a set.
-fn has(set: &[Step], step: Step) -> bool
+pub(crate) fn has(set: &[Step], step: Step) -> bool
     ensures { IsTrue result → Contains set.now step }
 {
     for other in set {
@@ -177,7 +177,7 @@ fn has(set: &[Step], step: Step) -> bool
 
 /// Whether a stream keeps off a request: it does not run, or stands at a closed place, from which its processor's table says
 /// that the request is passed.
-fn keeps_off<const S: usize>(
+pub(crate) fn keeps_off<const S: usize>(
     machine: &Machine<'_, S>,
     tables: &[TouchTable],
     step: Step,

@@ -2,9 +2,13 @@
 #![tactic(auto)]
 
 mod deciding;
+mod finding;
 mod forward_bits;
 mod laws;
+mod tables;
 
 pub use deciding::is_apart_set;
+pub use finding::apart_set;
 pub use forward_bits::may_forward;
 pub use laws::apart_sets_are_first;
+pub use tables::touch_tables;

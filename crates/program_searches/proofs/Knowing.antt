@@ -15,7 +15,7 @@ use Rattle.space_ends.specs.ScheduleSpace.Quiet.{AllFollowedQuietly}
 use Rattle.space_ends.specs.ScheduleSpace.Answers.{space_in, is_complete, bound_in, IsFull}
 use Rattle.space_ends.proofs.ScheduleSpace.Agreeing.{agree_same}
 use Rattle.space_ends.specs.ScheduleVerdicts.NamedRegisters.{AreNamed}
-use Rattle.space_ends.specs.ScheduleVerdicts.RightSpaces.{IsFollowedForClaims}
+use Rattle.space_ends.specs.ScheduleVerdicts.RightSpaces.{IsQuietForClaims, IsFollowedForClaims}
 use Rattle.space_ends.specs.ScheduleVerdicts.ShownClaims.{TellsOfClaims}
 use Rattle.program_searches.specs.Bounds.{IsBoundBy}
 use Rattle.program_searches.specs.Searches.{takes_all, most_worlds, HasNeededWorlds, IsSearched}
@@ -95,7 +95,7 @@ of_first asked most v b s = record {
 -- places that are reported are covered
 pub shown_by : (v : SpaceValue) (claims : List Claim) (places looked_at : List Bool) → looked_at ≡ places
     → ((k : ℕ) → slice_index_or places k false ≡ is_looked_at claims k) → AllFollowedQuietly looked_at v
-    → IsFollowedForClaims v claims
+    → IsQuietForClaims v claims
 shown_by v claims places looked_at same reported quiet = record {
   looked_at = looked_at;
   covers = λ k is. ap (λ (bs : List Bool). slice_index_or bs k false) same ∙ reported k ∙ is;

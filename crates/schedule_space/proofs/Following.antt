@@ -3,12 +3,11 @@ use Rattle.std.proofs.Common.{◌≡◌, ℕ, zero, suc, ◌+◌, ◌<◌, ◌�
 use Rattle.std.proofs.Common.{List, [], ◌∷◌, length, Bool, length-append}
 use Rattle.std.specs.Prelude.{IsTrue}
 use Rattle.std.specs.List.{Contains}
-use Rattle.processor.specs.World.{after, steps}
+use Rattle.processor.specs.World.{steps}
 use Rattle.processor.specs.declared.steps.Step.{Step}
 use Rattle.agreeing_ends.specs.SameFutures.Handlers.{may_have_handlers}
 use Rattle.world_keys.specs.DeadRegisters.Clearing.{IsLive, AgreeBy}
 use Rattle.agreeing_ends.specs.Followed as found
-use Rattle.agreeing_ends.proofs.FreeSets.{one_step, only_one, first_alone, together}
 use Rattle.agreeing_ends.proofs.Moving.{moved}
 use Rattle.agreeing_ends.proofs.Reached.{end_on, has_all_ends, has_shortest_ends, tells_whether_all_end}
 use Rattle.schedule_space.specs.Spaces.{SpaceValue, count, world_of, AreAllApart}
@@ -26,9 +25,8 @@ module _ (v : SpaceValue) (live : IsLive v.image v.live) (all : AllFollowed v) w
   followed_at : (k : ℕ) → IsFollowed v k
       → found.IsExpanded (AgreeBy v.live) (found_in v) k ⊎ found.IsTakenTogether (AgreeBy v.live) (found_in v) k
   followed_at k (inl each) = inl (λ t. (each t).step)
-  followed_at k (inr one) =
-      inr (together (AgreeBy v.live) (found_in v) k
-      (record { step = one.step; alone = one.alone; taken = one.taken.step }))
+  followed_at k (inr some) =
+      inr (record { set = some.set; first = some.first; taken = λ t there. (some.taken t there).step })
 
   followed : found.AllFollowed (AgreeBy v.live) (found_in v)
   followed k below = followed_at k (all k below)
@@ -78,15 +76,12 @@ module _ (v : SpaceValue) (live : IsLive v.image v.live) (all : AllFollowed v) w
               back_over k t (each t)
               (marked_from n (each t).step.to ts (omega (arith, few)) (each t).step.within
               (same_end k t (t ∷ ts) ts (each t) below refl end))
-          | inr one ↦
-              let w = world_of v k in
-              let m = moved v.image w (one_step one.step) (first_alone v.image w one.step one.alone) (t ∷ ts) end in
-              let leads =
-              subst (λ (x : Step). steps v.image (after v.image w x) m.others ≡ steps v.image w (t ∷ ts))
-              (sym (only_one one.step m.step m.there)) m.leads in
-              back_over k one.step one.taken
-              (marked_from n one.taken.step.to m.others (omega (arith, few, m.one_less)) one.taken.step.within
-              (same_end k one.step (t ∷ ts) m.others one.taken below leads end))
+          | inr some ↦
+              let m = moved v.image (world_of v k) some.set some.first (t ∷ ts) end in
+              let e = some.taken m.step m.there in
+              back_over k m.step e
+              (marked_from n e.step.to m.others (omega (arith, few, m.one_less)) e.step.within
+              (same_end k m.step (t ∷ ts) m.others e below m.leads end))
         ]
 
     pub marked_all : (k : ℕ) → k < count v → CanEnd v.image (world_of v k) → IsMarked marks k

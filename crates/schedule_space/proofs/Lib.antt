@@ -23,7 +23,9 @@ pub mod Plain
 pub mod Exploring
 pub mod Reading
 pub mod Marking
+pub mod Chosen
 pub mod Alone
+pub mod TakenTogether
 pub mod Following
 pub mod Explored
 pub mod FreeSteps

@@ -130,12 +130,17 @@ taken_then : (v w : SpaceValue) (from : ℕ) (others : List Step) (t : Step) →
 taken_then v w from others t g below all (inl taken) = taken_grown v w from t g below taken
 taken_then v w from others t g below all (inr waits) = all t waits
 
+-- so it is of each that was looked at
+pub each_waits : (v : SpaceValue) (from n : ℕ) (others ts : List Step) → length ts ≤ n → AreTakenOrWait v from others ts n
+    → (t : Step) → Contains ts t → IsTakenOrWaits v from others t
+each_waits v from n others ts many left t has =
+    subst (IsTakenOrWaits v from others) has.2 (left has.0 t (omega (arith, has.1, many)))
+
 -- where the others are taken too, each is
 pub waits_taken : (v w : SpaceValue) (from n : ℕ) (others ts : List Step) → IsGrown v w → from < count v
     → length ts ≤ n → AreTakenOrWait v from others ts n → AreAllTaken w from others → AreAllTaken w from ts
 waits_taken v w from n others ts g below many left all t has =
-    subst (IsTaken w from) has.2
-    (taken_then v w from others (get_or ts has.0 t) g below all (left has.0 t (omega (arith, has.1, many))))
+    taken_then v w from others t g below all (each_waits v from n others ts many left t has)
 
 -- What the code does for one step.
 

@@ -1,22 +1,23 @@
--- Spaces that have all ends, but not all worlds: of the steps from a world one may be taken alone that can be taken before
--- all others, and one world may stand for many.
+-- Spaces that have all ends, but not all worlds: of the steps from a world those of a set may be taken alone that can be
+-- taken before all others, and one world may stand for many.
+use Rattle.std.specs.List.{Contains}
 use Rattle.std.specs.Prelude.{ℕ, ◌<◌, ◌≤◌, ◌++◌, ◌⊎◌, List, length}
 use Rattle.processor.specs.World.{run}
 use Rattle.processor.specs.declared.steps.Step.{Step}
-use Rattle.agreeing_ends.specs.LocalSteps.FreeSteps.{IsFreeStep}
+use Rattle.agreeing_ends.specs.FirstSets.{IsFirstSet}
 use Rattle.schedule_space.specs.Spaces.{SpaceValue, count, schedule_of, world_of, StandsFor, HasStandIn}
 use Rattle.schedule_space.specs.Reaching.{IsEnd, CanEnd}
 use Rattle.schedule_space.specs.Finding.{IsTaken, IsExpanded}
 
--- a step from the world at this place that can be taken before all others is taken
-pub record IsTakenAlone (v : SpaceValue) (from : ℕ) : Type 0 where
-  pub step : Step
-  pub alone : IsFreeStep v.image (world_of v from) step
-  pub taken : IsTaken v from step
+-- the steps of a set from the world at this place are taken, which can be taken before all others
+pub record IsTakenTogether (v : SpaceValue) (from : ℕ) : Type 0 where
+  pub set : List Step
+  pub first : IsFirstSet v.image (world_of v from) set
+  pub taken : (t : Step) → Contains set t → IsTaken v from t
 
--- each step from the world at this place is taken, or one that can be taken before all others
+-- each step from the world at this place is taken, or those of a set that can be taken before all others
 abbrev pub IsFollowed : SpaceValue → ℕ → Type 0
-IsFollowed v k = IsExpanded v k ⊎ IsTakenAlone v k
+IsFollowed v k = IsExpanded v k ⊎ IsTakenTogether v k
 
 -- that holds of each world of the space
 abbrev pub AllFollowed : SpaceValue → Type 0

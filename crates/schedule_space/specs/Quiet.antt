@@ -1,6 +1,6 @@
 -- Steps that nobody sees who looks at some places of a program alone, as claims do: what a stream does is seen while it
 -- runs and stands at one of these places. A list says of each place whether it is looked at; past its end none is.
-use Rattle.std.specs.Prelude.{◌≡◌, ℕ, ◌<◌, ◌&&◌, ◌⊎◌, Bool, false, List, slice_get, slice_index_or}
+use Rattle.std.specs.Prelude.{◌≡◌, ℕ, ◌<◌, ◌&&◌, ◌⊎◌, Bool, true, false, List, slice_get, slice_index_or}
 use Rattle.image_file.specs.ImageValue.{ImageValue}
 use Rattle.stream_core.specs.Streams.{StreamValue}
 use Rattle.processor.specs.Processors.{stream_at}
@@ -11,6 +11,7 @@ use Rattle.waiting.specs.Running.{streams_at}
 use Rattle.agreeing_ends.specs.LocalSteps.FreeSteps.{IsFreeStep}
 use Rattle.schedule_space.specs.Spaces.{SpaceValue, count, world_of}
 use Rattle.schedule_space.specs.Finding.{IsTaken, IsExpanded}
+use Rattle.schedule_space.specs.Followed.{IsFollowed}
 
 -- whether a place is looked at
 abbrev pub is_looked_at : List Bool → ℕ → Bool
@@ -44,3 +45,13 @@ IsFollowedQuietly looked_at v k = IsExpanded v k ⊎ IsTakenQuietly looked_at v 
 -- that holds of each world of the space
 abbrev pub AllFollowedQuietly : List Bool → SpaceValue → Type 0
 AllFollowedQuietly looked_at v = (k : ℕ) → k < count v → IsFollowedQuietly looked_at v k
+
+-- where sets of steps are taken, each step from the world at this place is, or those of a set; else a quiet one is taken
+-- alone
+abbrev pub IsFollowedBy : Bool → List Bool → SpaceValue → ℕ → Type 0
+IsFollowedBy true looked_at v k = IsFollowed v k
+IsFollowedBy false looked_at v k = IsFollowedQuietly looked_at v k
+
+-- that holds of each world of the space
+abbrev pub AllFollowedBy : Bool → List Bool → SpaceValue → Type 0
+AllFollowedBy by_sets looked_at v = (k : ℕ) → k < count v → IsFollowedBy by_sets looked_at v k

@@ -1,27 +1,34 @@
 //! The search for all worlds of an image.
 
-ghost use Rattle.std.specs.Prelude.{◌≡◌, ◌<◌, ◌≤◌, ◌↔◌, ℕ, true, Some, IsTrue, IsFalse, IfOk, Contains};
+ghost use Rattle.std.specs.Prelude.{◌≡◌, ◌<◌, ◌≤◌, ◌↔◌, ℕ, true, Some, IsTrue, IsFalse, IfOk, Contains, List};
 ghost use Rattle.schedule_space.specs.declared.links.Edge.{Edge};
 ghost use Rattle.world_keys.specs.DeadRegisters.Clearing.{IsLive};
 ghost use Rattle.schedule_space.specs.Spaces.{count, IsComplete, IsDistinct, IsShortest, HasAllEdges};
 ghost use Rattle.schedule_space.specs.Spaces.{AreAllApart, StandAlone, ShortestFirst, AreAllDifferent, IsEdgeToStandIn};
 ghost use Rattle.schedule_space.specs.Finding.{IsExpanded, NamesAll};
 ghost use Rattle.schedule_space.specs.Followed.{AllFollowed, HasAllEnds, HasShortestEnds, TellsWhetherAllEnd};
-ghost use Rattle.schedule_space.specs.Quiet.{AllFollowedQuietly};
+ghost use Rattle.schedule_space.specs.Quiet.{AllFollowedQuietly, AllFollowedBy};
+ghost use Rattle.processor.specs.World.{run};
+ghost use Rattle.processor.specs.declared.steps.Step.{Step};
+ghost use Rattle.tag_memory.specs.Unforwarded.{IsUnforwarded};
+ghost use Rattle.touched_words.specs.ClosedTables.{IsClosedTable};
+ghost use Rattle.first_sets.specs.ApartSets.{table_at};
 ghost use Rattle.schedule_space.specs.Answers.{space_in, is_complete, bound_in, most_places, IsFull};
 
-use crate::expanding::Wanted;
+use crate::expanding::{Shortcuts, Wanted};
 use crate::finding::{Found, Stop};
 use crate::kept_machines::KeptMachines;
 use crate::spaces::Space;
 use crate::watches::{Bound, Watch};
 use agreeing_ends::local::settled_places;
+use first_sets::touch_tables;
 use image_file::Image;
 use machine::{LoadFault, Machine};
 use processor::{Processor, Step};
 use program_flow::Row;
-use std::alloc::Global;
+use std::alloc::{AllocError, Global};
 use std::mem::size_of;
+use touched_words::TouchTable;
 use world_keys::registers::LiveRegisters;
 
 /// How many worlds a search goes through from one question to who looks on to the next.
@@ -77,6 +84,7 @@ pub fn explore<'i, const S: usize, W: Watch>(
         &[true; 32],
         Wanted::Worlds,
         &[],
+        false,
         most,
         watch,
     )
@@ -123,28 +131,31 @@ pub fn explore_ends<'i, const S: usize, W: Watch>(
         names,
         Wanted::Ends,
         looked_at,
+        false,
         most,
         watch,
     )
 }
 
 /// Looks for what is wanted; one world stands for all that differ from it in registers and codes alone that do not matter.
-fn search<'i, const S: usize, W: Watch>(
+pub(crate) fn search<'i, const S: usize, W: Watch>(
     alloc: Global,
     image: &'i Image,
     begin: &[Step],
     names: &Row,
     wanted: Wanted,
     looked_at: &[bool],
+    by_sets: bool,
     most: usize,
     watch: &mut W,
 ) -> Result<Exploration<'i>, LoadFault>
-    requires { 1 ≤ most }
+    requires most { 1 ≤ most }
+    requires unforwarded { by_sets ≡ true → (ts : List Step) → IsUnforwarded (run image.now ts).memory }
     ensures image { IfOk result (λ e. (space_in e).image ≡ image.entry.now) }
     ensures begin { IfOk result (λ e. (space_in e).begin ≡ begin.now) }
     ensures expanded { IfOk result (λ e. wanted ≡ Wanted.Worlds → is_complete e ≡ true
         → (k : ℕ) → k < count (space_in e) → IsExpanded (space_in e) k) }
-    ensures quiet { IfOk result (λ e. is_complete e ≡ true → AllFollowedQuietly looked_at.now (space_in e)) }
+    ensures followed { IfOk result (λ e. is_complete e ≡ true → AllFollowedBy by_sets looked_at.now (space_in e)) }
     ensures names { IfOk result (λ e. (space_in e).live.names ≡ names.now) }
     ensures live { IfOk result (λ e. IsLive (space_in e).image (space_in e).live) }
     ensures edges { IfOk result (λ e. (d : Edge) → Contains (space_in e).edges d → IsEdgeToStandIn (space_in e) d) }
@@ -162,6 +173,13 @@ fn search<'i, const S: usize, W: Watch>(
     first.run(begin);
     let live = LiveRegisters::of(alloc, image, names)?;
     let settled = settled_places(alloc, image)?;
+    let tables = tables_if(alloc, image, by_sets)?;
+    let shortcuts = Shortcuts {
+        settled: &settled,
+        looked_at,
+        by_sets,
+        tables: &tables,
+    };
     let mut found = Found::begin(alloc, begin, &first, live, wanted)?;
     let mut machines = KeptMachines::new(alloc, first);
     let limit = world_limit(most);
@@ -173,12 +191,23 @@ fn search<'i, const S: usize, W: Watch>(
         if !is_to_go_on(watch, from, &found, &machines, machine_size) {
             return Ok(Exploration::Bounded(found.into_space(), Bound::Watch));
         }
-        let expanded = found.expand(&mut machines, from, wanted, looked_at, &settled, limit);
+        let expanded = found.expand(&mut machines, from, wanted, shortcuts, limit);
         if let Err(stop) = expanded {
             return Ok(Exploration::Bounded(found.into_space(), bound_of(stop)));
         }
     }
     Ok(Exploration::Complete(found.into_space()))
+}
+
+/// For each processor of an image what its streams may still ask for, where that is wanted; else no table.
+fn tables_if(alloc: Global, image: &Image, are_wanted: bool) -> Result<Vec<TouchTable>, AllocError>
+    ensures { IfOk result (λ ts. are_wanted ≡ true
+        → (p : ℕ) → IsClosedTable image.now.profile image.now.program (table_at ts.items p)) }
+{
+    if are_wanted {
+        return touch_tables(alloc, image);
+    }
+    Ok(Vec::new(alloc))
 }
 
 /// As many worlds, or as many as places have numbers for.

@@ -1,6 +1,7 @@
 //! The worlds that every schedule of an image leads to (docs/MACHINE.md, "Schedules").
 #![tactic(auto)]
 
+mod by_sets;
 mod expanding;
 mod explorations;
 mod fates;
@@ -17,8 +18,10 @@ mod reaching;
 mod routes;
 mod spaces;
 mod stepping;
+mod together;
 mod watches;
 
+pub use by_sets::explore_ends_by_sets;
 pub use explorations::{Exploration, explore, explore_ends};
 pub use fates::Fate;
 pub use links::{Edge, Link};

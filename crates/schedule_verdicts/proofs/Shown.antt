@@ -1,6 +1,6 @@
 -- What is claimed holds wherever a schedule leads, where it holds of each world of a space that leaves out just steps at
 -- which the claims do not look.
-use Rattle.std.proofs.Common.{ℕ, ◌⊎◌, inl, inr, sym, ◌∙◌, ◌++◌, subst, List}
+use Rattle.std.proofs.Common.{◌≡◌, ℕ, ◌⊎◌, inl, inr, refl, sym, ◌∙◌, ◌++◌, subst, List, [], false}
 use Rattle.std.specs.Prelude.{IsTrue}
 use Rattle.processor.specs.World.{World, run, steps}
 use Rattle.processor.specs.declared.steps.Step.{Step}
@@ -23,12 +23,12 @@ use Rattle.busy_streams.proofs.ScheduleSpace.Following.{ends_all, tells_all}
 use Rattle.busy_streams.proofs.ScheduleSpace.QuietSteps.{quiet_behind}
 use Rattle.schedule_verdicts.specs.KeptClaims.{all_hold, AreKept}
 use Rattle.schedule_verdicts.specs.NamedRegisters.{AreNamed, EndOfRegisters}
-use Rattle.schedule_verdicts.specs.RightSpaces.{IsRight, IsRightOnEachWay, IsFollowedForClaims}
+use Rattle.schedule_verdicts.specs.RightSpaces.{IsRight, EndsRight, IsRightOnEachWay, IsQuietForClaims, IsFollowedForClaims}
 use Rattle.schedule_verdicts.proofs.Alike.{agreeing_claims}
 use Rattle.schedule_verdicts.proofs.StandIns.{right_by_ends}
 use Rattle.schedule_verdicts.proofs.Unseen.{same_claims}
 
-module _ (v : SpaceValue) (claims : List Claim) (live : IsLive v.image v.live) (shown : IsFollowedForClaims v claims) where
+module _ (v : SpaceValue) (claims : List Claim) (live : IsLive v.image v.live) (shown : IsQuietForClaims v claims) where
   abbrev Holds : World → Type 0
   Holds w = IsTrue (all_hold claims w)
 
@@ -64,13 +64,19 @@ module _ (v : SpaceValue) (claims : List Claim) (live : IsLive v.image v.live) (
       (holds_wherever (AgreeBy v.live) Holds (found_in v) moving respects (λ k below. unseen_at k (shown.quiet k below)) kept
       (ground v live).some ts)
 
-pub right_by_quiet : (v : SpaceValue) (expected : List Expectation) (claims : List Claim) → IsRight v expected claims
-    → EndOfRegisters v expected → IsLive v.image v.live → AreNamed expected v.live.names → IsFollowedForClaims v claims
-    → IsRightOnEachWay v.image v.begin expected claims
-right_by_quiet v expected claims right of live named shown =
-    let all : AllFollowed v = followed_all shown.looked_at v shown.quiet in
-    record {
-      right =
-          right_by_ends v expected claims right of live named (ends_all v live all) (tells_all v live all);
-      claimed = claims_hold v claims live shown right.kept;
-    }
+-- a space that is followed has a right end wherever a schedule ends
+module _ (v : SpaceValue) (expected : List Expectation) (claims : List Claim) (right : IsRight v expected claims)
+    (of : EndOfRegisters v expected) (live : IsLive v.image v.live) (named : AreNamed expected v.live.names) where
+  ends_right : AllFollowed v → EndsRight v.image v.begin expected
+  ends_right all = right_by_ends v expected claims right of live named (ends_all v live all) (tells_all v live all)
+
+  pub right_by_followed : IsFollowedForClaims v claims → IsRightOnEachWay v.image v.begin expected claims
+  right_by_followed (inl none) = record {
+    right = ends_right none.1;
+    claimed = λ ts.
+        subst (λ (cs : List Claim). IsTrue (all_hold cs (run v.image (v.begin ++ ts)))) (sym none.0) refl;
+  }
+  right_by_followed (inr shown) = record {
+    right = ends_right (followed_all false shown.looked_at v shown.quiet);
+    claimed = claims_hold v claims live shown right.kept;
+  }

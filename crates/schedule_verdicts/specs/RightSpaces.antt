@@ -1,5 +1,5 @@
 -- Whether every schedule is right.
-use Rattle.std.specs.Prelude.{ℕ, ◌<◌, ◌++◌, Bool, false, List, IsTrue, slice_index_or}
+use Rattle.std.specs.Prelude.{◌≡◌, ℕ, ◌<◌, ◌++◌, ◌⊎◌, Bool, false, List, [], IsTrue, slice_index_or}
 use Rattle.image_file.specs.ImageValue.{ImageValue}
 use Rattle.processor.specs.World.{run}
 use Rattle.processor.specs.declared.steps.Step.{Step}
@@ -8,6 +8,7 @@ use Rattle.claims.specs.Looking.{is_looked_at}
 use Rattle.claims.specs.declared.claim.Claim.{Claim}
 use Rattle.busy_streams.specs.ScheduleSpace.Spaces.{SpaceValue, count, world_of}
 use Rattle.busy_streams.specs.ScheduleSpace.Reaching.{IsEnd, CanEnd}
+use Rattle.busy_streams.specs.ScheduleSpace.Followed.{AllFollowed}
 use Rattle.busy_streams.specs.ScheduleSpace.Quiet.{AllFollowedQuietly}
 use Rattle.schedule_verdicts.specs.RightEnds.{IsRightEnd}
 use Rattle.schedule_verdicts.specs.KeptClaims.{all_hold, AreKept}
@@ -26,12 +27,17 @@ pub record IsRightOnEachWay (image : ImageValue) (begin : List Step) (expected :
 
 -- Of a space.
 
--- Its worlds show whether claims hold: each step from them is taken, or one that can be taken before all others, and that
--- nobody sees who looks at the places at which the claims look.
-pub record IsFollowedForClaims (v : SpaceValue) (claims : List Claim) : Type 0 where
+-- Each step from its worlds is taken, or one that can be taken before all others, and that nobody sees who looks at the
+-- places at which the claims look.
+pub record IsQuietForClaims (v : SpaceValue) (claims : List Claim) : Type 0 where
   pub looked_at : List Bool
   pub covers : (place : ℕ) → IsTrue (is_looked_at claims place) → IsTrue (slice_index_or looked_at place false)
   pub quiet : AllFollowedQuietly looked_at v
+
+-- Its worlds show whether claims hold: there are none, and from each world all steps are taken, or those of a set that can be
+-- taken before all others; or steps that are left out can't be seen by them.
+abbrev pub IsFollowedForClaims : SpaceValue → List Claim → Type 0
+IsFollowedForClaims v claims = ((claims ≡ []) × AllFollowed v) ⊎ IsQuietForClaims v claims
 
 -- the world at this place is a right end, if it is an end
 pub record IsRightAt (v : SpaceValue) (expected : List Expectation) (k : ℕ) : Type 0 where

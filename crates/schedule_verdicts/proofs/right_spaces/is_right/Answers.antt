@@ -8,7 +8,7 @@ use Rattle.schedule_verdicts.specs.RightSpaces.{EndsRight, IsRightOnEachWay, IsF
 use Rattle.schedule_verdicts.proofs.Every.{right_by_worlds}
 use Rattle.schedule_verdicts.proofs.StandIns.{right_by_ends}
 use Rattle.schedule_verdicts.proofs.Each.{right_of_space}
-use Rattle.schedule_verdicts.proofs.Shown.{right_by_quiet}
+use Rattle.schedule_verdicts.proofs.Shown.{right_by_followed}
 use Rattle.schedule_verdicts.proofs.right_spaces.is_right.Goals as goal
 
 pub returns-clause-ends : goal.returns-clause-ends
@@ -46,7 +46,7 @@ returns-clause-shown g c =
     (λ b. IsTrue b → AreNamed c.args.expected.now v.live.names → IsFollowedForClaims v c.args.claims.now
     → IsRightOnEachWay v.image v.begin c.args.expected.now c.args.claims.now)
     (λ b told yes.
-    right_by_quiet v c.args.expected.now c.args.claims.now
+    right_by_followed v c.args.expected.now c.args.claims.now
     (record { ends = ends; reach = reach; kept = told.0 yes }) (c.in_ok-ends_are_right.ensures.registers (search rules))
     c.live-live.ensures.live)
     c.are_kept.ensures.kept

@@ -1,23 +1,28 @@
-use Rattle.std.proofs.Common.{sym, arith, rules, inr, refl, subst, get_or}
+use Rattle.std.proofs.Common.{◌≡◌, ℕ, sym, arith, rules, refl, subst, get_or}
 use Rattle.std.specs.Prelude.{OnOk, List}
+use Rattle.std.specs.List.{Contains}
+use Rattle.tag_memory.specs.Unforwarded.{IsUnforwarded}
 use Rattle.image_file.specs.ImageValue.{ImageValue}
+use Rattle.processor.specs.World.{World}
 use Rattle.processor.specs.declared.steps.Step.{Step}
+use Rattle.touched_words.specs.ClosedTables.{IsClosedTable}
+use Rattle.first_sets.specs.ApartSets.{table_at}
 use Rattle.agreeing_ends.specs.LocalSteps.SettledEndings.{AreSettled}
 use Rattle.schedule_space.specs.Kept.{AreKeptAt}
-use Rattle.schedule_space.specs.Spaces.{AreAllDifferent}
-use Rattle.schedule_space.specs.Finding.{IsExpanding, HasNoEdge, HaveNoEdges}
+use Rattle.schedule_space.specs.Spaces.{world_of, AreAllDifferent}
+use Rattle.schedule_space.specs.Finding.{IsExpanding, HasNoEdge, HaveNoEdges, HasRunning}
 use Rattle.schedule_space.proofs.Different.{different_same, no_edges_at, no_edges_next, waiting_none, waiting_next}
-use Rattle.schedule_space.proofs.Growing.{grown_refl, grown_trans}
-use Rattle.schedule_space.proofs.Taking.{AreAllTaken, IsTakenOrWaits, waits_next}
-use Rattle.schedule_space.proofs.Alone.{expanded_if, followed_if, waiting_taken}
+use Rattle.schedule_space.proofs.Growing.{grown_refl, grown_trans, world_grown}
+use Rattle.schedule_space.proofs.Taking.{AreAllTaken, IsTakenOrWaits, waits_next, each_waits}
+use Rattle.schedule_space.proofs.Alone.{expanded_if, followed_if, followed_by_sets, quiet_by, waiting_taken}
 use Rattle.schedule_space.proofs.finding.Found.take_enough.Goals as goal
 
 pub take_free-requires : goal.take_free-requires
 take_free-requires g c =
     let expanding : IsExpanding c.loop-step.self c.args.from c.args.most = c.loop-step.invariant.expanding in
     let machines : AreKeptAt c.loop-step.self c.loop-step.machines c.args.from = c.loop-step.invariant.machines in
-    let settled : AreSettled c.loop-step.self.image c.args.settled.now =
-    subst (λ (i : ImageValue). AreSettled i c.args.settled.now) (sym c.loop-step.invariant.grown.image) c.requires.settled in
+    let settled : AreSettled c.loop-step.self.image c.args.shortcuts.settled.now =
+    subst (λ (i : ImageValue). AreSettled i c.args.shortcuts.settled.now) (sym c.loop-step.invariant.grown.image) c.requires.settled in
     let n = c.loop-step.step-index in
     let none : Step = record { p = 0; s = 0 } in
     let new : HasNoEdge c.loop-step.self c.args.from (get_or c.args.running.now n none) =
@@ -47,7 +52,7 @@ returns-then-is_later g c = record {
   expanding = c.take_free.ensures.expanding;
   full = λ e. absurd cc;
   machines = c.in_ok-is_later.ensures.machines;
-  quiet = inr (c.in_ok-is_later.ensures.alone c.if-is_later.true);
+  followed = quiet_by c.args.shortcuts.by_sets c.args.shortcuts.looked_at.now c.take_free.new.self c.args.from (c.in_ok-is_later.ensures.alone c.if-is_later.true);
 }
 
 pub loop-step-preserved : goal.loop-step-preserved
@@ -76,6 +81,44 @@ loop-step-preserved g c =
       machines = c.in_ok-is_later.ensures.machines;
     }
 
+pub take_set_or_all-requires : goal.take_set_or_all-requires
+take_set_or_all-requires g c =
+    let u = c.args.self.now in
+    let v = c.loop-step.self in
+    let from = c.args.from in
+    let ts = c.args.running.now in
+    let others = c.loop-step.others.items in
+    let waiting = c.loop-step.invariant.waiting in
+    let grown = c.loop-step.invariant.grown in
+    let same : world_of v from ≡ world_of u from = world_grown u v from grown c.requires.expanding.there in
+    let expanding : IsExpanding v from c.args.most = c.loop-step.invariant.expanding in
+    let machines : AreKeptAt v c.loop-step.machines from = c.loop-step.invariant.machines in
+    let once : AreAllDifferent c.deref.result.now =
+    different_same others c.deref.result.now c.deref.ensures.value waiting.once in
+    let new : HaveNoEdges v from c.deref.result.now =
+    subst (HaveNoEdges v from) (sym c.deref.ensures.value) waiting.new in
+    let running : HasRunning (world_of v from) ts =
+    subst (λ (x : World). HasRunning x ts) (sym same) c.requires.running in
+    let waits : (t : Step) → Contains ts t → IsTakenOrWaits v from c.deref.result.now t =
+    subst (λ (os : List Step). (t : Step) → Contains ts t → IsTakenOrWaits v from os t) (sym c.deref.ensures.value)
+    (each_waits v from c.loop-step.step-index others ts (omega arith) c.loop-step.invariant.waits) in
+    let closed : (p : ℕ) → IsClosedTable v.image.profile v.image.program (table_at c.args.shortcuts.tables.now p) =
+    subst (λ (i : ImageValue). (p : ℕ) → IsClosedTable i.profile i.program (table_at c.args.shortcuts.tables.now p))
+    (sym grown.image) (c.requires.closed c.if-shortcuts.true) in
+    let unforwarded : IsUnforwarded (world_of v from).memory =
+    subst (λ (x : World). IsUnforwarded x.memory) (sym same) (c.requires.unforwarded c.if-shortcuts.true) in
+    search rules
+
+pub returns-then-shortcuts-clause-grown : goal.returns-then-shortcuts-clause-grown
+returns-then-shortcuts-clause-grown g c =
+    grown_trans c.args.self.now c.loop-step.self c.take_set_or_all.new.self c.loop-step.invariant.grown
+    c.take_set_or_all.ensures.grown
+
+pub returns-then-shortcuts-clause-followed : goal.returns-then-shortcuts-clause-followed
+returns-then-shortcuts-clause-followed g c =
+    followed_by_sets c.take_set_or_all.result c.args.shortcuts.by_sets c.args.shortcuts.looked_at.now c.take_set_or_all.new.self
+    c.args.from c.if-shortcuts.true c.take_set_or_all.ensures.followed
+
 pub take_all-requires : goal.take_all-requires
 take_all-requires g c =
     let v = c.loop-step.self in
@@ -83,10 +126,10 @@ take_all-requires g c =
     let waiting = c.loop-step.invariant.waiting in
     let expanding : IsExpanding v c.args.from c.args.most = c.loop-step.invariant.expanding in
     let machines : AreKeptAt v c.loop-step.machines c.args.from = c.loop-step.invariant.machines in
-    let once : AreAllDifferent c.deref.result.now =
-    different_same others c.deref.result.now c.deref.ensures.value waiting.once in
-    let new : HaveNoEdges v c.args.from c.deref.result.now =
-    subst (HaveNoEdges v c.args.from) (sym c.deref.ensures.value) waiting.new in
+    let once : AreAllDifferent c.deref-2.result.now =
+    different_same others c.deref-2.result.now c.deref-2.ensures.value waiting.once in
+    let new : HaveNoEdges v c.args.from c.deref-2.result.now =
+    subst (HaveNoEdges v c.args.from) (sym c.deref-2.ensures.value) waiting.new in
     search rules
 
 pub returns : goal.returns
@@ -96,8 +139,8 @@ returns g c = record {
   expanding = c.take_all.ensures.expanding;
   full = c.take_all.ensures.full;
   machines = c.take_all.ensures.machines;
-  quiet =
-      followed_if c.take_all.result c.args.looked_at.now c.take_all.new.self c.args.from
+  followed =
+      followed_if c.take_all.result c.args.shortcuts.by_sets c.args.shortcuts.looked_at.now c.take_all.new.self c.args.from
       (expanded_if c.take_all.result c.args.self.now c.take_all.new.self c.args.from
       c.args.running.now
       (grown_trans c.args.self.now c.loop-step.self c.take_all.new.self c.loop-step.invariant.grown c.take_all.ensures.grown)
@@ -106,5 +149,5 @@ returns g c = record {
       c.loop-step.others.items c.args.running.now c.take_all.ensures.grown c.loop-step.invariant.expanding.there
       (omega arith) c.loop-step.invariant.waits
       (subst (λ (ts : List Step). OnOk c.take_all.result (AreAllTaken c.take_all.new.self c.args.from ts))
-      c.deref.ensures.value c.take_all.ensures.taken)));
+      c.deref-2.ensures.value c.take_all.ensures.taken)));
 }

@@ -17,7 +17,7 @@ is_quiet_step-requires g c =
     let free : IsTrue c.is_free_step.result
     → IsFreeStep c.unwrap-here.result.now.image c.unwrap-here.result.now.world c.args.link.step =
     c.is_free_step.ensures.free
-    (subst (λ (m : MachineValue). AreSettled m.image c.args.settled.now) (sym at) c.requires.settled) in
+    (subst (λ (m : MachineValue). AreSettled m.image c.args.shortcuts.settled.now) (sym at) c.requires.settled) in
     search rules
 
 pub returns-clause-alone : goal.returns-clause-alone
@@ -29,6 +29,6 @@ returns-clause-alone g c = λ later.
     c.here.ensures c.unwrap-here.ensures c.in_ok-make_here.ensures.made in
     let free =
     c.is_free_step.ensures.free
-    (subst (λ (m : MachineValue). AreSettled m.image c.args.settled.now) (sym at) c.requires.settled) (search rules) in
-    quiet_at c.args.looked_at.now v c.take.new.self from c.in_ok-to.to c.unwrap-here.result.now c.args.link.step
+    (subst (λ (m : MachineValue). AreSettled m.image c.args.shortcuts.settled.now) (sym at) c.requires.settled) (search rules) in
+    quiet_at c.args.shortcuts.looked_at.now v c.take.new.self from c.in_ok-to.to c.unwrap-here.result.now c.args.link.step
     c.take.ensures.grown c.requires.expanding.there at free (search rules) c.in_ok-to.ensures.to (search rules)

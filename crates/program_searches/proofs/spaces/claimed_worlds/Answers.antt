@@ -1,10 +1,10 @@
-use Rattle.std.proofs.Common.{subst, List}
+use Rattle.std.proofs.Common.{inr, subst, List}
 use Rattle.expectations.specs.declared.expectation.Expectation.{Expectation}
 use Rattle.space_ends.specs.ScheduleSpace.Answers.{space_in}
 use Rattle.space_ends.specs.ScheduleVerdicts.NamedRegisters.{AreNamed}
 use Rattle.space_ends.specs.ScheduleVerdicts.RightSpaces.{IsFollowedForClaims}
 use Rattle.program_searches.proofs.Knowing.{of_ends, shown_by, names_known}
-use Rattle.program_searches.proofs.spaces.needed_worlds.Goals as goal
+use Rattle.program_searches.proofs.spaces.claimed_worlds.Goals as goal
 
 pub returns-in-Ok-clause-searched : goal.returns-in-Ok-clause-searched
 returns-in-Ok-clause-searched g c =
@@ -23,6 +23,6 @@ returns-in-Ok-clause-searched g c =
           c.named_registers-names.ensures);
       claimed =
           subst (IsFollowedForClaims v) c.claims.ensures
-          (shown_by v c.claims.result.now c.in_ok-places.places.items c.deref.result.now c.deref.ensures.value
-          c.in_ok-places.ensures (c.in-Ok.ensures.quiet on));
+          (inr (shown_by v c.claims.result.now c.in_ok-places.places.items c.deref.result.now c.deref.ensures.value
+          c.in_ok-places.ensures (c.in-Ok.ensures.quiet on)));
     })

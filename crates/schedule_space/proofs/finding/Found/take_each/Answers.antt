@@ -1,11 +1,13 @@
-use Rattle.std.proofs.Common.{arith, rules, refl, get_or}
+use Rattle.std.proofs.Common.{arith, rules, refl, sym, subst, get_or}
+use Rattle.std.specs.List.{Contains}
+use Rattle.std.proofs.lemmas.List.Elements.{Contains-get_or}
 use Rattle.processor.specs.declared.steps.Step.{Step}
 use Rattle.schedule_space.specs.Finding.{IsTaken, IsExpanding, HasNoEdge}
 use Rattle.schedule_space.specs.Kept.{AreKeptAt}
 use Rattle.schedule_space.proofs.Different.{no_edges_at, no_edges_next}
 use Rattle.schedule_space.proofs.Growing.{grown_refl, grown_trans}
 use Rattle.schedule_space.proofs.Taking.{taken_next, taken_each}
-use Rattle.schedule_space.proofs.finding.Found.take_all.Goals as goal
+use Rattle.schedule_space.proofs.finding.Found.take_each.Goals as goal
 
 pub take-requires : goal.take-requires
 take-requires g c =
@@ -24,10 +26,11 @@ loop-place-init g c = record {
   taken = λ k d below. absurd (omega arith);
   new = no_edges_at c.args.self.now c.args.from c.args.steps.now c.requires.new;
   machines = c.requires.machines;
+  edges = λ t out none. none;
 }
 
-pub returns-in_err-take-clause-grown : goal.returns-in_err-take-clause-grown
-returns-in_err-take-clause-grown g c =
+pub returns-in_err-to-clause-grown : goal.returns-in_err-to-clause-grown
+returns-in_err-to-clause-grown g c =
     grown_trans c.args.self.now c.loop-place.self c.take.new.self c.loop-place.invariant.grown c.take.ensures.grown
 
 pub loop-place-preserved : goal.loop-place-preserved
@@ -48,6 +51,9 @@ loop-place-preserved g c =
           no_edges_next here new c.args.from n ts (get_or ts n none) none c.requires.once refl c.take.ensures.edges (omega arith)
           c.loop-place.invariant.new;
       machines = search rules;
+      edges = λ t out none0.
+          c.take.ensures.edges t (λ same. out (subst (Contains ts) (sym same) (Contains-get_or ts n none (omega arith))))
+          (c.loop-place.invariant.edges t out none0);
     }
 
 pub returns : goal.returns
@@ -56,5 +62,6 @@ returns g c = record {
   expanding = c.loop-place.invariant.expanding;
   full = λ e. absurd cc;
   machines = c.loop-place.invariant.machines;
+  edges = c.loop-place.invariant.edges;
   taken = taken_each c.loop-place.self c.args.from c.loop-place.place c.args.steps.now (omega arith) c.loop-place.invariant.taken;
 }

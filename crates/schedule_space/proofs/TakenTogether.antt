@@ -1,0 +1,74 @@
+-- Steps of a set that are taken together, and all where they do not lead on.
+use Rattle.std.proofs.Common.{◌≡◌, ℕ, ◌<◌, inl, inr, sym, subst, arith, List}
+use Rattle.std.specs.Prelude.{Result, Ok, Err, OnOk, IsTrue}
+use Rattle.std.specs.List.{Contains}
+use Rattle.machine.specs.MachineValue.{MachineValue}
+use Rattle.processor.specs.World.{World}
+use Rattle.processor.specs.declared.steps.Step.{Step}
+use Rattle.image_file.specs.ImageValue.{ImageValue}
+use Rattle.waiting.specs.Running.{runs_in}
+use Rattle.touched_words.specs.TouchTables.{TouchValue}
+use Rattle.agreeing_ends.specs.FirstSets.{IsFirstSet}
+use Rattle.first_sets.specs.ApartSets.{IsApartSet}
+use Rattle.first_sets.proofs.Apart.{first_apart}
+use Rattle.first_sets.proofs.Resting as rest
+use Rattle.schedule_space.specs.Spaces.{SpaceValue, count, schedule_of, world_of, machine_after}
+use Rattle.schedule_space.specs.Finding.{IsGrown, IsTaken, HasRunning}
+use Rattle.schedule_space.specs.Followed.{IsTakenTogether, IsFollowed}
+use Rattle.schedule_space.specs.Chosen.{is_in, steps_in, steps_out}
+use Rattle.schedule_space.proofs.Chosen.{is_kept, found_in, in_or_out}
+use Rattle.schedule_space.proofs.Growing.{world_grown, taken_grown}
+use Rattle.schedule_space.proofs.Taking.{AreAllTaken, IsTakenOrWaits, all_taken, machine_grown}
+
+-- a step of a set that is apart is one of a stream that runs
+member_runs : (image : ImageValue) (tables : List TouchValue) (w : World) (set : List Step)
+    → IsApartSet image tables w set → (t : Step) → Contains set t → IsTrue (runs_in w t)
+member_runs image tables w set a t there =
+    let m = a.members t there in rest.runs image w t m.stream _ m.makes
+
+-- Steps from the world at a place, of which some were taken and the others wait.
+module _ (v w : SpaceValue) (from : ℕ) (g : IsGrown v w) (below : from < count v) (running others : List Step)
+    (runs : HasRunning (world_of v from) running)
+    (waits : (t : Step) → Contains running t → IsTakenOrWaits v from others t) where
+  then_taken : (t : Step) → (Contains others t → IsTaken w from t) → IsTakenOrWaits v from others t → IsTaken w from t
+  then_taken t waited (inl taken) = taken_grown v w from t g below taken
+  then_taken t waited (inr there) = waited there
+
+  -- where the others are taken, each step is
+  pub all_by_others : AreAllTaken w from others → IsFollowed w from
+  all_by_others all =
+      inl (all_taken w from running (omega (arith, below, g.more))
+      (subst (λ (x : World). HasRunning x running) (sym (world_grown v w from g below)) runs)
+      (λ t there. then_taken t (all t) (waits t there)))
+
+  -- where those of the others are that are of a set which is apart in the machine at the place, its steps are
+  pub by_set : (m : MachineValue) (tables : List TouchValue) (set : List Step)
+      → m ≡ machine_after v.image (schedule_of v from) → IsApartSet m.image tables m.world set
+      → AreAllTaken w from (steps_in set others) → IsTakenTogether w from
+  by_set m tables set is apart taken =
+      record {
+        set = set;
+        first =
+            subst (λ (x : MachineValue). IsFirstSet x.image x.world set) (machine_grown v w from m g below is)
+            (first_apart m.image tables m.world set apart);
+        taken = λ t there.
+            let on : IsTrue (runs_in (world_of v from) t) =
+            subst (λ (x : MachineValue). IsTrue (runs_in x.world t)) is
+            (member_runs m.image tables m.world set apart t there) in
+            then_taken t (λ inside. taken t (is_kept (is_in set) others t (found_in set t there) inside))
+            (waits t (runs t on));
+      }
+
+-- where those of a set are taken first, and then the rest, all are
+pub all_in_two : (u w : SpaceValue) (from : ℕ) (set others : List Step) → IsGrown u w → from < count u
+    → AreAllTaken u from (steps_in set others) → AreAllTaken w from (steps_out set others) → AreAllTaken w from others
+all_in_two u w from set others g below first rest_taken t there = elim (in_or_out set others t there) [
+  | inl inside ↦ taken_grown u w from t g below (first t inside)
+  | inr outside ↦ rest_taken t outside
+]
+
+-- so it is of a result
+pub followed_on : {E : Type 0} (r : Result Unit E) (w : SpaceValue) (from : ℕ) (others : List Step)
+    → (AreAllTaken w from others → IsFollowed w from) → OnOk r (AreAllTaken w from others) → OnOk r (IsFollowed w from)
+followed_on (Ok a) w from others by all = by all
+followed_on (Err e) w from others by all = all

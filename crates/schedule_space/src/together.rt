@@ -1,0 +1,110 @@
+//! Steps of a set that are taken together from a world, since they can be taken before all others.
+
+ghost use Rattle.std.specs.Prelude.{◌≡◌, ◌⊎◌, ℕ, Err, IfOk, OnOk};
+ghost use Rattle.std.specs.List.{Contains};
+ghost use Rattle.tag_memory.specs.Unforwarded.{IsUnforwarded};
+ghost use Rattle.processor.specs.declared.steps.Step.{Step};
+ghost use Rattle.touched_words.specs.ClosedTables.{IsClosedTable};
+ghost use Rattle.first_sets.specs.ApartSets.{table_at};
+ghost use Rattle.schedule_space.specs.Spaces.{world_of, AreAllDifferent};
+ghost use Rattle.schedule_space.specs.Kept.{AreKeptAt};
+ghost use Rattle.schedule_space.specs.Finding.{IsGrown, IsTaken, IsExpanding, HasRunning, HaveNoEdges, IsFullAt};
+ghost use Rattle.schedule_space.specs.Followed.{IsFollowed};
+ghost use Rattle.schedule_space.specs.Chosen.{is_step, is_in, is_out, steps_in, steps_out};
+
+use crate::finding::{Found, Stop};
+use crate::kept_machines::KeptMachines;
+use first_sets::apart_set;
+use processor::Step;
+use std::alloc::{AllocError, Global};
+use touched_words::TouchTable;
+
+impl<'i> Found<'i> {
+    /// Takes, of the steps of `others`, those of a set that can be taken before all others, where one is found by the tables
+    /// and one of these steps leads to a later place; else all. `running` has the steps of all streams that run; those that
+    /// are not among `others` have been taken.
+    pub(crate) fn take_set_or_all<const S: usize>(
+        &mut self,
+        machines: &mut KeptMachines<'i, S>,
+        from: u32,
+        running: &[Step],
+        others: &[Step],
+        tables: &[TouchTable],
+        most: u32,
+    ) -> Result<(), Stop>
+        requires expanding { IsExpanding self.old from most }
+        requires machines { AreKeptAt self.old machines.old from }
+        requires once { AreAllDifferent others.now }
+        requires new { HaveNoEdges self.old from others.now }
+        requires running { HasRunning (world_of self.old from) running.now }
+        requires waits { (t : Step) → Contains running.now t → IsTaken self.old from t ⊎ Contains others.now t }
+        requires closed { (p : ℕ) → IsClosedTable self.old.image.profile self.old.image.program (table_at tables.now p) }
+        requires unforwarded { IsUnforwarded (world_of self.old from).memory }
+        ensures grown { IsGrown self.old self.new }
+        ensures expanding { IsExpanding self.new from most }
+        ensures full { result ≡ Err Stop.Full → IsFullAt self.new from most }
+        ensures machines { OnOk result (AreKeptAt self.new machines.new from) }
+        ensures followed { OnOk result (IsFollowed self.new from) }
+    {
+        self.make_here(machines, from)?;
+        let here = machines.here().unwrap();
+        let Some(set) = apart_set(self.alloc, here, tables, running)? else {
+            return self.take_all(machines, from, others, most);
+        };
+        let first = steps_in(self.alloc, &set, others)?;
+        let is_later = self.take_each(machines, from, &first, false, most)?;
+        if is_later {
+            return Ok(());
+        }
+        let rest = steps_out(self.alloc, &set, others)?;
+        self.take_all(machines, from, &rest, most)
+    }
+}
+
+/// Those of these steps that are of a set, in their order.
+fn steps_in(alloc: Global, set: &[Step], steps: &[Step]) -> Result<Vec<Step>, AllocError>
+    ensures { IfOk result (λ v. v.items ≡ steps_in set.now steps.now) }
+{
+    steps
+        .iter()
+        .copied()
+        .filter(
+            |step: &Step| -> bool
+                ensures { result ≡ is_in set.entry.now step.now }
+            { is_in(set, *step) },
+        )
+        .collect(alloc)
+}
+
+/// Those of these steps that are not of a set, in their order.
+fn steps_out(alloc: Global, set: &[Step], steps: &[Step]) -> Result<Vec<Step>, AllocError>
+    ensures { IfOk result (λ v. v.items ≡ steps_out set.now steps.now) }
+{
+    steps
+        .iter()
+        .copied()
+        .filter(
+            |step: &Step| -> bool
+                ensures { result ≡ is_out set.entry.now step.now }
+            { !is_in(set, *step) },
+        )
+        .collect(alloc)
+}
+
+/// Whether a step is one of a set.
+fn is_in(set: &[Step], step: Step) -> bool
+    ensures { result ≡ is_in set.now step }
+{
+    set.iter().any(
+        |other: &Step| -> bool
+            ensures { result ≡ is_step step other.now }
+        { is_step(step, *other) },
+    )
+}
+
+/// Whether the second one is this step.
+fn is_step(this: Step, step: Step) -> bool
+    ensures { result ≡ is_step this step }
+{
+    step.p == this.p && step.s == this.s
+}
