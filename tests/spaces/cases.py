@@ -16,6 +16,8 @@ from ends_alone import EndsAlone
 
 # how many worlds a program that is searched has, and how many programs a seed tries to find one
 LEAST, MOST, TRIES = 8, 300, 200
+# of so many programs one has streams that seldom meet
+APART = 4
 # the verdict of `grade --explore` where no end and no claim is against a program
 SPINS, RIGHT = "spins", "right"
 # how a program is surveyed
@@ -29,7 +31,7 @@ class Case:
         self.seed = seed
         chance = random.Random(seed)
         for _ in range(TRIES):
-            self.made = programs.made(chance)
+            self.made = (programs.apart if seed % APART == 0 else programs.made)(chance)
             self.space = search.Space(self.made.program, (), MOST)
             if self.space.is_whole and len(self.space.distance) >= LEAST:
                 break

@@ -34,6 +34,32 @@ def made(chance):
     return Made(program, text_of(program), memory)
 
 
+def apart(chance):
+    """A random program whose streams have a part of the program each, and words of their own besides one that they share."""
+    entries = chance.choice((2, 2, 3))
+    each = chance.choice((3, 4)) if entries < 3 else 3
+    retry = chance.choice((0, 0, 0, 1))
+    starts = tuple(range(0, entries * each, each))
+    data = tuple((chance.choice(VALUES), tags_of(chance)) for _ in range(entries + 1))
+    words = [word for stream, start in enumerate(starts) for word in part_of(chance, stream, start, each, entries)]
+    program = Program(1, retry, NO_HANDLER, starts, data, tuple(words))
+    return Made(program, text_of(program), entries + 1)
+
+
+def part_of(chance, stream, start, length, shared):
+    """The part of a stream: references to its own word or to the shared one, what it computes, and a QUIT or a way back."""
+    for at in range(length - 1):
+        roll = chance.random()
+        name, suffix, rd, base, _ = memory_operation(chance, 1)
+        if roll < 0.7:
+            yield Word(memory=(name, suffix, rd, base, stream if chance.random() < 0.7 else shared))
+        elif roll < 0.85:
+            yield Word(arithmetic=arithmetic_operation(chance))
+        else:
+            yield Word(control=("SKIP", chance.choice(CONDITIONS), 0, chance.randrange(length) - at - 1))
+    yield Word(control=("QUIT",)) if chance.random() < 0.85 else Word(control=("SKIP", "ALWAYS", 0, -length))
+
+
 def tags_of(chance):
     """Mostly full or empty; at times with a bit that traps or forwards."""
     return chance.choice((0, 1, 1, 1)) | (chance.choice((2, 4, 8)) if chance.random() < 0.06 else 0)
