@@ -1,5 +1,5 @@
 -- Steps of a set that are taken together, and all where they do not lead on.
-use Rattle.std.proofs.Common.{◌≡◌, ℕ, ◌<◌, inl, inr, sym, subst, arith, List}
+use Rattle.std.proofs.Common.{◌≡◌, ℕ, ◌<◌, ◌⊎◌, inl, inr, refl, sym, subst, arith, List, Bool, true, false, ◌||◌, ◌&&◌}
 use Rattle.std.specs.Prelude.{Result, Ok, Err, OnOk, IsTrue}
 use Rattle.std.specs.List.{Contains}
 use Rattle.machine.specs.MachineValue.{MachineValue}
@@ -13,11 +13,12 @@ use Rattle.first_sets.specs.ApartSets.{IsApartSet}
 use Rattle.first_sets.proofs.Apart.{first_apart}
 use Rattle.first_sets.proofs.Resting as rest
 use Rattle.schedule_space.specs.Spaces.{SpaceValue, count, schedule_of, world_of, machine_after}
-use Rattle.schedule_space.specs.Finding.{IsGrown, IsTaken, HasRunning}
-use Rattle.schedule_space.specs.Followed.{IsTakenTogether, IsFollowed}
+use Rattle.schedule_space.specs.Finding.{IsGrown, IsTaken, IsTakenTo, IsExpanded, HasRunning}
+use Rattle.schedule_space.specs.Followed.{IsTakenTogether}
+use Rattle.schedule_space.specs.Quiet.{IsFollowedQuietly, IsSomeTakenLater}
 use Rattle.schedule_space.specs.Chosen.{is_in, steps_in, steps_out}
-use Rattle.schedule_space.proofs.Chosen.{is_kept, found_in, in_or_out}
-use Rattle.schedule_space.proofs.Growing.{world_grown, taken_grown}
+use Rattle.schedule_space.proofs.Chosen.{is_kept, found_in, in_or_out, in_set}
+use Rattle.schedule_space.proofs.Growing.{world_grown, taken_grown, taken_still}
 use Rattle.schedule_space.proofs.Taking.{AreAllTaken, IsTakenOrWaits, all_taken, machine_grown}
 
 -- a step of a set that is apart is one of a stream that runs
@@ -35,9 +36,9 @@ module _ (v w : SpaceValue) (from : ℕ) (g : IsGrown v w) (below : from < count
   then_taken t waited (inr there) = waited there
 
   -- where the others are taken, each step is
-  pub all_by_others : AreAllTaken w from others → IsFollowed w from
+  pub all_by_others : AreAllTaken w from others → IsExpanded w from
   all_by_others all =
-      inl (all_taken w from running (omega (arith, below, g.more))
+      (all_taken w from running (omega (arith, below, g.more))
       (subst (λ (x : World). HasRunning x running) (sym (world_grown v w from g below)) runs)
       (λ t there. then_taken t (all t) (waits t there)))
 
@@ -68,7 +69,41 @@ all_in_two u w from set others g below first rest_taken t there = elim (in_or_ou
 ]
 
 -- so it is of a result
-pub followed_on : {E : Type 0} (r : Result Unit E) (w : SpaceValue) (from : ℕ) (others : List Step)
-    → (AreAllTaken w from others → IsFollowed w from) → OnOk r (AreAllTaken w from others) → OnOk r (IsFollowed w from)
-followed_on (Ok a) w from others by all = by all
-followed_on (Err e) w from others by all = all
+pub followed_on : {E : Type 0} (r : Result Unit E) (looked_at : List Bool) (words : List ℕ) (w : SpaceValue) (from : ℕ)
+    (others : List Step) → (AreAllTaken w from others → IsExpanded w from) → OnOk r (AreAllTaken w from others)
+    → OnOk r (IsFollowedQuietly looked_at words w from)
+followed_on (Ok a) looked_at words w from others by all = inl (by all)
+followed_on (Err e) looked_at words w from others by all = all
+
+-- One of these steps is taken, and leads to a later place.
+
+pub some_later_grown : (v w : SpaceValue) (from : ℕ) (ts : List Step) → IsGrown v w → from < count v
+    → IsSomeTakenLater v from ts → IsSomeTakenLater w from ts
+some_later_grown v w from ts g below one =
+    let e = taken_still v w from one.step g below one.taken in
+    record {
+      step = one.step;
+      there = one.there;
+      taken = e.0;
+      later = let same = e.1 in let later = one.later in omega (arith, same, later);
+    }
+
+pub some_later : (v : SpaceValue) (from to : ℕ) (ts : List Step) (t : Step) → IsTakenTo v from t to → from < to
+    → is_in ts t ≡ true → IsSomeTakenLater v from ts
+some_later v from to ts t taken later inside = record {
+  step = t;
+  there = in_set ts t inside;
+  taken = taken.0;
+  later = let same = taken.1 in omega (arith, same, later);
+}
+
+-- so it stays where another step is taken, whether that one is such a step or not
+pub some_later_next : (v w : SpaceValue) (from to : ℕ) (ts : List Step) (t : Step) (was on inside : Bool) → IsGrown v w
+    → from < count v → (was ≡ true → IsSomeTakenLater v from ts) → IsTakenTo w from t to → (on ≡ true → from < to)
+    → (inside ≡ true → is_in ts t ≡ true) → (was || (on && inside)) ≡ true → IsSomeTakenLater w from ts
+some_later_next v w from to ts t true on inside g below before taken later has is =
+    some_later_grown v w from ts g below (before refl)
+some_later_next v w from to ts t false true true g below before taken later has is =
+    some_later w from to ts t taken (later refl) (has refl)
+some_later_next v w from to ts t false true false g below before taken later has is = let off : ⊥ = cc in absurd off
+some_later_next v w from to ts t false false inside g below before taken later has is = let off : ⊥ = cc in absurd off

@@ -26,6 +26,7 @@ loop-place-init g c = record {
   taken = λ k d below. absurd (omega arith);
   new = no_edges_at c.args.self.now c.args.from c.args.steps.now c.requires.new;
   machines = c.requires.machines;
+  later = λ on. cc;
   edges = λ t out none. none;
 }
 
@@ -51,6 +52,7 @@ loop-place-preserved g c =
           no_edges_next here new c.args.from n ts (get_or ts n none) none c.requires.once refl c.take.ensures.edges (omega arith)
           c.loop-place.invariant.new;
       machines = search rules;
+      later = ?;
       edges = λ t out none0.
           c.take.ensures.edges t (λ same. out (subst (Contains ts) (sym same) (Contains-get_or ts n none (omega arith))))
           (c.loop-place.invariant.edges t out none0);
@@ -63,5 +65,6 @@ returns g c = record {
   full = λ e. absurd cc;
   machines = c.loop-place.invariant.machines;
   edges = c.loop-place.invariant.edges;
+  later = c.loop-place.invariant.later;
   taken = taken_each c.loop-place.self c.args.from c.loop-place.place c.args.steps.now (omega arith) c.loop-place.invariant.taken;
 }

@@ -24,8 +24,8 @@ apart_set-requires g c =
     lent_is c.here.result c.unwrap-here.result c.make_here.new.machines.here (machine_after v.image (schedule_of v from))
     c.here.ensures c.unwrap-here.ensures c.in_ok-make_here.ensures.made in
     let m = c.unwrap-here.result.now in
-    let closed : (p : ℕ) → IsClosedTable m.image.profile m.image.program (table_at c.args.tables.now p) =
-    subst (λ (x : MachineValue). (p : ℕ) → IsClosedTable x.image.profile x.image.program (table_at c.args.tables.now p))
+    let closed : (p : ℕ) → IsClosedTable m.image.profile m.image.program (table_at c.args.shortcuts.tables.now p) =
+    subst (λ (x : MachineValue). (p : ℕ) → IsClosedTable x.image.profile x.image.program (table_at c.args.shortcuts.tables.now p))
     (sym at) c.requires.closed in
     let unforwarded : IsUnforwarded m.world.memory =
     subst (λ (x : MachineValue). IsUnforwarded x.world.memory) (sym at) c.requires.unforwarded in
@@ -33,11 +33,11 @@ apart_set-requires g c =
     subst (λ (x : MachineValue). HasRunning x.world c.args.running.now) (sym at) c.requires.running in
     search rules
 
-pub returns-in_default-clause-followed : goal.returns-in_default-clause-followed
-returns-in_default-clause-followed g c =
+pub returns-in_default-clause-quiet : goal.returns-in_default-clause-quiet
+returns-in_default-clause-quiet g c =
     let v = c.args.self.now in
     let w = c.take_all.new.self in
-    followed_on c.take_all.result w c.args.from c.args.others.now
+    followed_on c.take_all.result c.args.shortcuts.observation.places.now c.args.shortcuts.observation.words.now w c.args.from c.args.others.now
     (all_by_others v w c.args.from c.take_all.ensures.grown c.requires.expanding.there c.args.running.now c.args.others.now
     c.requires.running c.requires.waits)
     c.take_all.ensures.taken
@@ -54,8 +54,8 @@ take_each-requires g c =
     subst (HaveNoEdges v c.args.from) (sym is) (λ t there. c.requires.new t (kept_is (is_in set) others t there).0) in
     search rules
 
-pub returns-then-is_later-clause-followed : goal.returns-then-is_later-clause-followed
-returns-then-is_later-clause-followed g c =
+pub returns-then-is_later-clause-quiet : goal.returns-then-is_later-clause-quiet
+returns-then-is_later-clause-quiet g c =
     let v = c.args.self.now in
     let w = c.take_each.new.self in
     let from = c.args.from in
@@ -66,13 +66,17 @@ returns-then-is_later-clause-followed g c =
     c.here.ensures c.unwrap-here.ensures c.in_ok-make_here.ensures.made in
     let m = c.unwrap-here.result.now in
     let is : c.deref-2.result.now ≡ steps_in set others = c.deref-2.ensures.value ∙ c.in_ok-first.ensures in
-    let found : IsApartSet m.image c.args.tables.now m.world c.in-Some.set.items = search rules in
-    let apart : IsApartSet m.image c.args.tables.now m.world set =
-    subst (IsApartSet m.image c.args.tables.now m.world) (sym c.deref.ensures.value) found in
+    let found : IsApartSet m.image c.args.shortcuts.tables.now m.world c.in-Some.set.items = search rules in
+    let apart : IsApartSet m.image c.args.shortcuts.tables.now m.world set =
+    subst (IsApartSet m.image c.args.shortcuts.tables.now m.world) (sym c.deref.ensures.value) found in
     let taken : AreAllTaken w from (steps_in set others) =
     subst (AreAllTaken w from) is c.in_ok-is_later.ensures.taken in
-    inr (by_set v w from c.take_each.ensures.grown c.requires.expanding.there c.args.running.now others c.requires.running
-    c.requires.waits m c.args.tables.now set at apart taken)
+    let together =
+    by_set v w from c.take_each.ensures.grown c.requires.expanding.there c.args.running.now others c.requires.running
+    c.requires.waits m c.args.shortcuts.tables.now set at apart taken in
+    let one = c.in_ok-is_later.ensures.later c.if-is_later.true in
+    quietly_by v w from c.take_each.ensures.grown c.requires.expanding.there c.args.shortcuts.observation.places.now
+    c.args.shortcuts.observation.words.now m c.args.shortcuts.tables.now set at apart together ? one ?
 
 pub take_all-requires-2 : goal.take_all-requires-2
 take_all-requires-2 g c =
@@ -96,8 +100,8 @@ take_all-requires-2 g c =
     let machines : AreKeptAt w c.take_each.new.machines from = c.in_ok-is_later.ensures.machines in
     search rules
 
-pub returns-clause-followed : goal.returns-clause-followed
-returns-clause-followed g c =
+pub returns-clause-quiet : goal.returns-clause-quiet
+returns-clause-quiet g c =
     let v = c.args.self.now in
     let u = c.take_each.new.self in
     let w = c.take_all-2.new.self in
@@ -109,7 +113,7 @@ returns-clause-followed g c =
     let first : c.deref-2.result.now ≡ steps_in set others = c.deref-2.ensures.value ∙ c.in_ok-first.ensures in
     let is : c.deref-4.result.now ≡ steps_out set others =
     c.deref-4.ensures.value ∙ c.in_ok-rest.ensures ∙ ap (λ (s : List Step). steps_out s others) same in
-    followed_on c.take_all-2.result w from c.deref-4.result.now
+    followed_on c.take_all-2.result c.args.shortcuts.observation.places.now c.args.shortcuts.observation.words.now w from c.deref-4.result.now
     (λ rest.
     all_by_others v w from grown c.requires.expanding.there c.args.running.now others c.requires.running c.requires.waits
     (all_in_two u w from set others c.take_all-2.ensures.grown c.take_each.ensures.expanding.there
