@@ -3,7 +3,7 @@ use Rattle.std.proofs.Common.{◌≡◌, ℕ, ◌<◌, ◌⊎◌, inl, inr, refl
 use Rattle.std.specs.Prelude.{Result, Ok, Err, OnOk, IsTrue}
 use Rattle.std.specs.List.{Contains}
 use Rattle.machine.specs.MachineValue.{MachineValue}
-use Rattle.processor.specs.World.{World}
+use Rattle.processor.specs.World.{World, steps}
 use Rattle.processor.specs.declared.steps.Step.{Step}
 use Rattle.image_file.specs.ImageValue.{ImageValue}
 use Rattle.waiting.specs.Running.{runs_in}
@@ -15,10 +15,11 @@ use Rattle.first_sets.proofs.Resting as rest
 use Rattle.schedule_space.specs.Spaces.{SpaceValue, count, schedule_of, world_of, machine_after}
 use Rattle.schedule_space.specs.Finding.{IsGrown, IsTaken, IsTakenTo, IsExpanded, HasRunning}
 use Rattle.schedule_space.specs.Followed.{IsTakenTogether}
-use Rattle.schedule_space.specs.Quiet.{IsFollowedQuietly, IsSomeTakenLater}
+use Rattle.schedule_space.specs.Quiet.{IsUnseen, IsUnseenStep, IsTakenQuietly, IsFollowedQuietly, IsSomeTakenLater}
 use Rattle.schedule_space.specs.Chosen.{is_in, steps_in, steps_out}
-use Rattle.schedule_space.proofs.Chosen.{is_kept, found_in, in_or_out, in_set}
+use Rattle.schedule_space.proofs.Chosen.{is_kept, kept_is, found_in, in_or_out, in_set}
 use Rattle.schedule_space.proofs.Growing.{world_grown, taken_grown, taken_still}
+use Rattle.schedule_space.proofs.UnseenSets.{unseen_after}
 use Rattle.schedule_space.proofs.Taking.{AreAllTaken, IsTakenOrWaits, all_taken, machine_grown}
 
 -- a step of a set that is apart is one of a stream that runs
@@ -58,6 +59,29 @@ module _ (v w : SpaceValue) (from : ℕ) (g : IsGrown v w) (below : from < count
             (member_runs m.image tables m.world set apart t there) in
             then_taken t (λ inside. taken t (is_kept (is_in set) others t (found_in set t there) inside))
             (waits t (runs t on));
+      }
+
+  -- if one of them that nobody sees leads to a later place, they are taken quietly
+  pub quietly : (m : MachineValue) (tables : List TouchValue) (set : List Step)
+      → (is : m ≡ machine_after v.image (schedule_of v from)) → (apart : IsApartSet m.image tables m.world set)
+      → AreAllTaken w from (steps_in set others) → (looked_at : List Bool) (words : List ℕ) (unseen : List Step)
+      → ((t : Step) → Contains unseen t → Contains (steps_in set others) t)
+      → ((t : Step) → Contains unseen t → IsUnseen looked_at words m.image m.world t)
+      → IsSomeTakenLater w from unseen → IsTakenQuietly looked_at words w from
+  unfolding by_set
+  quietly m tables set is apart taken looked_at words unseen among none one =
+      let at = machine_grown v w from m g below is in
+      let inside : Contains set one.step =
+      in_set set one.step (kept_is (is_in set) others one.step (among one.step one.there)).1 in
+      record {
+        together = by_set m tables set is apart taken;
+        step = one.step;
+        there = inside;
+        taken = one.taken;
+        later = one.later;
+        unseen = λ us out.
+            subst (λ (x : MachineValue). IsUnseenStep looked_at words x.image (steps x.image x.world us) one.step) at
+            (unseen_after m.image tables m.world set apart one.step inside looked_at words (none one.step one.there) us out);
       }
 
 -- where those of a set are taken first, and then the rest, all are

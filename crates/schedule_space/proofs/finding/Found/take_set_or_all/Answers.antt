@@ -13,7 +13,7 @@ use Rattle.schedule_space.proofs.Chosen.{kept_is, different_kept, out_not_in}
 use Rattle.schedule_space.proofs.Growing.{grown_trans}
 use Rattle.schedule_space.proofs.Placing.{lent_is}
 use Rattle.schedule_space.proofs.Taking.{AreAllTaken}
-use Rattle.schedule_space.proofs.TakenTogether.{all_by_others, by_set, all_in_two, followed_on}
+use Rattle.schedule_space.proofs.TakenTogether.{all_by_others, quietly, all_in_two, followed_on}
 use Rattle.schedule_space.proofs.finding.Found.take_set_or_all.Goals as goal
 
 pub apart_set-requires : goal.apart_set-requires
@@ -71,12 +71,11 @@ returns-then-is_later-clause-quiet g c =
     subst (IsApartSet m.image c.args.shortcuts.tables.now m.world) (sym c.deref.ensures.value) found in
     let taken : AreAllTaken w from (steps_in set others) =
     subst (AreAllTaken w from) is c.in_ok-is_later.ensures.taken in
-    let together =
-    by_set v w from c.take_each.ensures.grown c.requires.expanding.there c.args.running.now others c.requires.running
-    c.requires.waits m c.args.shortcuts.tables.now set at apart taken in
-    let one = c.in_ok-is_later.ensures.later c.if-is_later.true in
-    quietly_by v w from c.take_each.ensures.grown c.requires.expanding.there c.args.shortcuts.observation.places.now
-    c.args.shortcuts.observation.words.now m c.args.shortcuts.tables.now set at apart together ? one ?
+    let among : (t : Step) → Contains c.deref-3.result.now t → Contains (steps_in set others) t = ? in
+    let unseen = c.in_ok-unseen.ensures.unseen in
+    inr (quietly v w from c.take_each.ensures.grown c.requires.expanding.there c.args.running.now others c.requires.running
+    c.requires.waits m c.args.shortcuts.tables.now set at apart taken c.args.shortcuts.observation.places.now
+    c.args.shortcuts.observation.words.now c.deref-3.result.now among ? (c.in_ok-is_later.ensures.later c.if-is_later.true))
 
 pub take_all-requires-2 : goal.take_all-requires-2
 take_all-requires-2 g c =
