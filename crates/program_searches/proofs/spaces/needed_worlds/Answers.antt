@@ -4,7 +4,7 @@ use Rattle.space_ends.specs.ScheduleSpace.Answers.{space_in}
 use Rattle.space_ends.specs.ScheduleVerdicts.NamedRegisters.{AreNamed}
 use Rattle.space_ends.specs.ScheduleVerdicts.RightSpaces.{IsFollowedForClaims}
 use Rattle.program_searches.proofs.Knowing.{of_ends, shown_by, names_known}
-use Rattle.program_searches.proofs.spaces.claimed_worlds.Goals as goal
+use Rattle.program_searches.proofs.spaces.needed_worlds.Goals as goal
 
 pub returns-in-Ok-clause-searched : goal.returns-in-Ok-clause-searched
 returns-in-Ok-clause-searched g c =
