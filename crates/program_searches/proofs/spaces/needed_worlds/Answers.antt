@@ -1,4 +1,4 @@
-use Rattle.std.proofs.Common.{inr, subst, List}
+use Rattle.std.proofs.Common.{subst, List}
 use Rattle.expectations.specs.declared.expectation.Expectation.{Expectation}
 use Rattle.space_ends.specs.ScheduleSpace.Answers.{space_in}
 use Rattle.space_ends.specs.ScheduleVerdicts.NamedRegisters.{AreNamed}
@@ -23,6 +23,6 @@ returns-in-Ok-clause-searched g c =
           c.named_registers-names.ensures);
       claimed =
           subst (IsFollowedForClaims v) c.claims.ensures
-          (inr (shown_by v c.claims.result.now c.in_ok-places.places.items c.deref.result.now c.deref.ensures.value
-          c.in_ok-places.ensures (c.in-Ok.ensures.quiet on)));
+          (shown_by v c.claims.result.now c.in_ok-places.places.items c.deref.result.now c.in_ok-words.words.items
+          c.deref-2.result.now c.deref.ensures.value c.deref-2.ensures.value c.in_ok-places.ensures ? (c.in-Ok.ensures.quiet on));
     })
