@@ -1,4 +1,5 @@
 -- What a filter of steps keeps.
+use Rattle.std.proofs.Common.{◌||◌}
 use Rattle.std.proofs.Common.{◌≡◌, zero, suc, ◌⊎◌, inl, inr, refl, sym, ap, ◌∙◌, subst, arith, eq-eqb, eqb-true}
 use Rattle.std.proofs.Common.{Bool, true, false, not, ◌&&◌, ◌==◌, List, [], ◌∷◌, filter, if◌then◌else◌}
 use Rattle.std.specs.List.{Contains}

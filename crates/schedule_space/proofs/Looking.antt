@@ -31,6 +31,6 @@ module _ {A : Type 0} where
       → (y : A) → Contains new y → P y
   pushed P old new x is all last y there =
       by (Contains-push_cases old x y (subst (λ (ys : List A). Contains ys y) is there)) where
-    by : Contains old y ⊎ (x ≡ y) → P y
-    by (inl before) = all y before
-    by (inr here) = subst P here last
+        by : Contains old y ⊎ (x ≡ y) → P y
+        by (inl before) = all y before
+        by (inr here) = subst P here last

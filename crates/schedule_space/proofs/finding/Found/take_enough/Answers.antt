@@ -1,4 +1,4 @@
-use Rattle.std.proofs.Common.{◌≡◌, ℕ, sym, arith, rules, refl, subst, get_or}
+use Rattle.std.proofs.Common.{inr, ◌≡◌, ℕ, sym, arith, rules, refl, subst, get_or}
 use Rattle.std.specs.Prelude.{OnOk, List}
 use Rattle.std.specs.List.{Contains}
 use Rattle.tag_memory.specs.Unforwarded.{IsUnforwarded}

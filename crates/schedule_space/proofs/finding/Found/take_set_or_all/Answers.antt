@@ -8,6 +8,7 @@ use Rattle.first_sets.specs.ApartSets.{table_at, IsApartSet}
 use Rattle.schedule_space.specs.Spaces.{schedule_of, machine_after, AreAllDifferent}
 use Rattle.schedule_space.specs.Finding.{IsGrown, HasRunning, HaveNoEdges, IsExpanding}
 use Rattle.schedule_space.specs.Kept.{AreKeptAt}
+use Rattle.schedule_space.specs.Quiet.{IsUnseen}
 use Rattle.schedule_space.specs.Chosen.{is_in, is_out, steps_in, steps_out}
 use Rattle.schedule_space.proofs.Chosen.{kept_is, different_kept, out_not_in}
 use Rattle.schedule_space.proofs.Growing.{grown_trans}
@@ -47,11 +48,13 @@ take_each-requires g c =
     let v = c.args.self.now in
     let set = c.deref.result.now in
     let others = c.args.others.now in
-    let is : c.deref-2.result.now ≡ steps_in set others = c.deref-2.ensures.value ∙ c.in_ok-first.ensures in
-    let once : AreAllDifferent c.deref-2.result.now =
+    let is : c.deref-3.result.now ≡ steps_in set others = c.deref-3.ensures.value ∙ c.in_ok-first.ensures in
+    let once : AreAllDifferent c.deref-3.result.now =
     subst (λ (ts : List Step). AreAllDifferent ts) (sym is) (different_kept (is_in set) others c.requires.once) in
-    let new : HaveNoEdges v c.args.from c.deref-2.result.now =
+    let new : HaveNoEdges v c.args.from c.deref-3.result.now =
     subst (HaveNoEdges v c.args.from) (sym is) (λ t there. c.requires.new t (kept_is (is_in set) others t there).0) in
+    let expanding : IsExpanding v c.args.from c.args.most = c.requires.expanding in
+    let machines : AreKeptAt v c.make_here.new.machines c.args.from = c.in_ok-make_here.ensures.machines in
     search rules
 
 pub returns-then-is_later-clause-quiet : goal.returns-then-is_later-clause-quiet
@@ -65,17 +68,23 @@ returns-then-is_later-clause-quiet g c =
     lent_is c.here.result c.unwrap-here.result c.make_here.new.machines.here (machine_after v.image (schedule_of v from))
     c.here.ensures c.unwrap-here.ensures c.in_ok-make_here.ensures.made in
     let m = c.unwrap-here.result.now in
-    let is : c.deref-2.result.now ≡ steps_in set others = c.deref-2.ensures.value ∙ c.in_ok-first.ensures in
+    let is : c.deref-3.result.now ≡ steps_in set others = c.deref-3.ensures.value ∙ c.in_ok-first.ensures in
     let found : IsApartSet m.image c.args.shortcuts.tables.now m.world c.in-Some.set.items = search rules in
     let apart : IsApartSet m.image c.args.shortcuts.tables.now m.world set =
     subst (IsApartSet m.image c.args.shortcuts.tables.now m.world) (sym c.deref.ensures.value) found in
     let taken : AreAllTaken w from (steps_in set others) =
     subst (AreAllTaken w from) is c.in_ok-is_later.ensures.taken in
-    let among : (t : Step) → Contains c.deref-3.result.now t → Contains (steps_in set others) t = ? in
-    let unseen = c.in_ok-unseen.ensures.unseen in
+    let shown : c.deref-2.result.now ≡ steps_in set others = c.deref-2.ensures.value ∙ c.in_ok-first.ensures in
+    let among : (t : Step) → Contains c.deref-4.result.now t → Contains (steps_in set others) t =
+    λ t there.
+    subst (λ (ts : List Step). Contains ts t) shown
+    (c.in_ok-unseen.ensures.some t (subst (λ (ts : List Step). Contains ts t) c.deref-4.ensures.value there)) in
+    let none : (t : Step) → Contains c.deref-4.result.now t
+    → IsUnseen c.args.shortcuts.observation.places.now c.args.shortcuts.observation.words.now m.image m.world t =
+    λ t there. c.in_ok-unseen.ensures.unseen t (subst (λ (ts : List Step). Contains ts t) c.deref-4.ensures.value there) in
     inr (quietly v w from c.take_each.ensures.grown c.requires.expanding.there c.args.running.now others c.requires.running
     c.requires.waits m c.args.shortcuts.tables.now set at apart taken c.args.shortcuts.observation.places.now
-    c.args.shortcuts.observation.words.now c.deref-3.result.now among ? (c.in_ok-is_later.ensures.later c.if-is_later.true))
+    c.args.shortcuts.observation.words.now c.deref-4.result.now among none (c.in_ok-is_later.ensures.later c.if-is_later.true))
 
 pub take_all-requires-2 : goal.take_all-requires-2
 take_all-requires-2 g c =
@@ -83,15 +92,15 @@ take_all-requires-2 g c =
     let from = c.args.from in
     let others = c.args.others.now in
     let set = c.deref.result.now in
-    let same : c.deref-3.result.now ≡ set = c.deref-3.ensures.value ∙ sym c.deref.ensures.value in
-    let first : c.deref-2.result.now ≡ steps_in set others = c.deref-2.ensures.value ∙ c.in_ok-first.ensures in
-    let is : c.deref-4.result.now ≡ steps_out set others =
-    c.deref-4.ensures.value ∙ c.in_ok-rest.ensures ∙ ap (λ (s : List Step). steps_out s others) same in
-    let once : AreAllDifferent c.deref-4.result.now =
+    let same : c.deref-5.result.now ≡ set = c.deref-5.ensures.value ∙ sym c.deref.ensures.value in
+    let first : c.deref-3.result.now ≡ steps_in set others = c.deref-3.ensures.value ∙ c.in_ok-first.ensures in
+    let is : c.deref-6.result.now ≡ steps_out set others =
+    c.deref-6.ensures.value ∙ c.in_ok-rest.ensures ∙ ap (λ (s : List Step). steps_out s others) same in
+    let once : AreAllDifferent c.deref-6.result.now =
     subst (λ (ts : List Step). AreAllDifferent ts) (sym is) (different_kept (is_out set) others c.requires.once) in
-    let apart : (t : Step) → Contains (steps_out set others) t → Contains c.deref-2.result.now t → ⊥ =
+    let apart : (t : Step) → Contains (steps_out set others) t → Contains c.deref-3.result.now t → ⊥ =
     λ t out there. out_not_in set others t out (subst (λ (ts : List Step). Contains ts t) first there) in
-    let new : HaveNoEdges w from c.deref-4.result.now =
+    let new : HaveNoEdges w from c.deref-6.result.now =
     subst (HaveNoEdges w from) (sym is)
     (λ t there.
     c.in_ok-is_later.ensures.edges t (apart t there) (c.requires.new t (kept_is (is_out set) others t there).0)) in
@@ -108,11 +117,11 @@ returns-clause-quiet g c =
     let others = c.args.others.now in
     let set = c.deref.result.now in
     let grown : IsGrown v w = grown_trans v u w c.take_each.ensures.grown c.take_all-2.ensures.grown in
-    let same : c.deref-3.result.now ≡ set = c.deref-3.ensures.value ∙ sym c.deref.ensures.value in
-    let first : c.deref-2.result.now ≡ steps_in set others = c.deref-2.ensures.value ∙ c.in_ok-first.ensures in
-    let is : c.deref-4.result.now ≡ steps_out set others =
-    c.deref-4.ensures.value ∙ c.in_ok-rest.ensures ∙ ap (λ (s : List Step). steps_out s others) same in
-    followed_on c.take_all-2.result c.args.shortcuts.observation.places.now c.args.shortcuts.observation.words.now w from c.deref-4.result.now
+    let same : c.deref-5.result.now ≡ set = c.deref-5.ensures.value ∙ sym c.deref.ensures.value in
+    let first : c.deref-3.result.now ≡ steps_in set others = c.deref-3.ensures.value ∙ c.in_ok-first.ensures in
+    let is : c.deref-6.result.now ≡ steps_out set others =
+    c.deref-6.ensures.value ∙ c.in_ok-rest.ensures ∙ ap (λ (s : List Step). steps_out s others) same in
+    followed_on c.take_all-2.result c.args.shortcuts.observation.places.now c.args.shortcuts.observation.words.now w from c.deref-6.result.now
     (λ rest.
     all_by_others v w from grown c.requires.expanding.there c.args.running.now others c.requires.running c.requires.waits
     (all_in_two u w from set others c.take_all-2.ensures.grown c.take_each.ensures.expanding.there
