@@ -1,16 +1,13 @@
 //! The search for all worlds of an image.
 
-ghost use Rattle.std.specs.Prelude.{◌≡◌, ◌<◌, ◌≤◌, ◌↔◌, ℕ, true, Some, IsTrue, IsFalse, IfOk, Contains, List};
+ghost use Rattle.std.specs.Prelude.{◌≡◌, ◌<◌, ◌≤◌, ◌↔◌, ℕ, true, Some, IsTrue, IsFalse, IfOk, Contains};
 ghost use Rattle.schedule_space.specs.declared.links.Edge.{Edge};
 ghost use Rattle.world_keys.specs.DeadRegisters.Clearing.{IsLive};
 ghost use Rattle.schedule_space.specs.Spaces.{count, IsComplete, IsDistinct, IsShortest, HasAllEdges};
 ghost use Rattle.schedule_space.specs.Spaces.{AreAllApart, StandAlone, ShortestFirst, AreAllDifferent, IsEdgeToStandIn};
 ghost use Rattle.schedule_space.specs.Finding.{IsExpanded, NamesAll};
 ghost use Rattle.schedule_space.specs.Followed.{AllFollowed, HasAllEnds, HasShortestEnds, TellsWhetherAllEnd};
-ghost use Rattle.schedule_space.specs.Quiet.{AllFollowedQuietly, AllFollowedBy};
-ghost use Rattle.processor.specs.World.{run};
-ghost use Rattle.processor.specs.declared.steps.Step.{Step};
-ghost use Rattle.tag_memory.specs.Unforwarded.{IsUnforwarded};
+ghost use Rattle.schedule_space.specs.Quiet.{AllFollowedQuietly};
 ghost use Rattle.touched_words.specs.ClosedTables.{IsClosedTable};
 ghost use Rattle.first_sets.specs.ApartSets.{table_at};
 ghost use Rattle.schedule_space.specs.Answers.{space_in, is_complete, bound_in, most_places, IsFull};
