@@ -131,7 +131,3 @@ some_later_next v w from to ts t false true true g below before taken later has 
     some_later w from to ts t taken (later refl) (has refl)
 some_later_next v w from to ts t false true false g below before taken later has is = let off : ⊥ = cc in absurd off
 some_later_next v w from to ts t false false inside g below before taken later has is = let off : ⊥ = cc in absurd off
-
-pub not_both : (b : Bool) → b ≡ true → b ≡ false → ⊥
-not_both true on off = cc
-not_both false on off = cc

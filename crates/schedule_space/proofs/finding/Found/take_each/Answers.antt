@@ -1,5 +1,6 @@
-use Rattle.std.proofs.Common.{◌∙◌, arith, rules, refl, sym, subst, get_or}
+use Rattle.std.proofs.Common.{◌<◌, ◌∙◌, arith, rules, refl, sym, subst, get_or}
 use Rattle.std.specs.List.{Contains}
+use Rattle.std.proofs.lemmas.Bool.{ltb-true}
 use Rattle.std.proofs.lemmas.List.Elements.{Contains-get_or}
 use Rattle.processor.specs.declared.steps.Step.{Step}
 use Rattle.schedule_space.specs.Finding.{IsTaken, IsExpanding, HasNoEdge}
@@ -7,7 +8,7 @@ use Rattle.schedule_space.specs.Kept.{AreKeptAt}
 use Rattle.schedule_space.proofs.Different.{no_edges_at, no_edges_next}
 use Rattle.schedule_space.proofs.Growing.{grown_refl, grown_trans}
 use Rattle.schedule_space.proofs.Taking.{taken_next, taken_each}
-use Rattle.schedule_space.proofs.TakenTogether.{some_later, some_later_grown, not_both}
+use Rattle.schedule_space.proofs.TakenTogether.{some_later, some_later_grown}
 use Rattle.schedule_space.proofs.finding.Found.take_each.Goals.{then-is_later, else-is_later+then-to-from, else-is_later+else-to-from}
 use Rattle.schedule_space.proofs.finding.Found.take_each.Goals as goal
 
@@ -61,7 +62,11 @@ loop-place-preserved g c =
         | else-is_later+then-to-from w ↦
             some_later new c.args.from c.in_ok-to.to c.args.unseen.now (get_or ts n none) c.in_ok-to.ensures.to
             w.if-to-from.true (sym w.is_in.ensures ∙ sym w.is_later-is ∙ on)
-        | else-is_later+else-to-from w ↦ absurd (not_both c.if-is_later.is_later on w.is_later-is)
+        | else-is_later+else-to-from w ↦
+            let past : c.args.from < c.in_ok-to.to =
+            ltb-true c.args.from c.in_ok-to.to (sym w.is_later-is ∙ on) in
+            let not_past = w.if-to-from.false in
+            absurd (omega (arith, past, not_past))
       ];
       edges = λ t out none0.
           c.take.ensures.edges t (λ same. out (subst (Contains ts) (sym same) (Contains-get_or ts n none (omega arith))))
