@@ -24,9 +24,11 @@ LINES, NAMES = 180_000, 4096
 FILES = 2000
 # how many words a long program has
 LONG = 16_000
-# how many states the eight philosophers of bench/search_programs.sh have, which take 280 megabytes (LAB_REFERENCE.md, "What a
-# search takes"); fewer megabytes than that, and more
+# how many states the eight philosophers of bench/search_programs.sh have where something is claimed, which take 280 megabytes;
+# fewer megabytes than that, and more. Without a claim, which holds always, far fewer states would do (LAB_REFERENCE.md, "Every
+# schedule")
 PHILOSOPHERS, TOO_FEW, ENOUGH = 734_871, 200, 800
+CLAIM = b"always word 0 is 0\n"
 
 
 def lab(*words, **how):
@@ -86,9 +88,10 @@ def streams(count):
 
 def of_grade(tally, folder):
     """Searches side by side share the megabytes."""
-    expected = write(folder, "any.expect", b"word 0 123456789\n")
-    for what, text, sizes in (("large machines", growing(8, 1000, 128), (300, 1000)), ("philosophers", philosophers(12, 3), (200,)),
-                              ("32 streams", streams(32), (200, 1000))):
+    for what, text, claim, sizes in (("large machines", growing(8, 1000, 128), b"", (300, 1000)),
+                                     ("philosophers", philosophers(12, 3), CLAIM, (200,)),
+                                     ("32 streams", streams(32), b"", (200, 1000))):
+        expected = write(folder, "any.expect", b"word 0 123456789\n" + claim)
         # (submissions of the same bytes are judged once)
         paths = [write(folder, f"grows{number}.asm", text + b"; %d\n" % number) for number in range(8)]
         for size, jobs in ((size, jobs) for size in sizes for jobs in ("1", "4")):
@@ -104,7 +107,7 @@ def of_thorough(tally, folder):
     """Searches with more and more megabytes: up to too few of them a right program is not decided, up to enough it is right."""
     script = os.path.join(ROOT, "bench/search_programs.sh")
     path = write(folder, "eight.asm", subprocess.run([script, "philosophers"], capture_output=True, check=True).stdout)
-    expected = write(folder, "eight.expect", b"word 64 8\nfinished\n")
+    expected = write(folder, "eight.expect", b"word 64 8\nfinished\n" + CLAIM)
     for size, status, row in ((TOO_FEW, 5, rb"not decided\tsome schedules, \d+ states, ended by --memory, and 1 seed"),
                               (ENOUGH, 0, b"right\tevery schedule, %d states, and 1 seed" % PHILOSOPHERS)):
         ended = lab("grade", "--explore", "--thorough", "--memory", str(size), "--jobs", "1", "--seeds", "1", "--expect", expected,
