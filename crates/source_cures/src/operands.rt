@@ -80,7 +80,7 @@ fn propose_after(
     second: &str,
 ) -> Result<(), AllocError> {
     let line = &marked.line;
-    if !first.starts_with("TLIT t1, ") && !first.starts_with("LIT r2, ") {
+    if !first.starts_with("TLIT t") && !first.starts_with("LIT r") {
         return Ok(());
     }
     if second == "t1" {
@@ -91,7 +91,7 @@ fn propose_after(
             Ok(())
         };
     }
-    if second == "r2, 0" {
+    if is_pointer(first, second) {
         return match rest_of(out, marked)? {
             Some(piece) => out.write_after(line, first, piece, second),
             None => Ok(()),
@@ -101,10 +101,21 @@ fn propose_after(
     if second.starts_with(head) && !head.is_empty() {
         return out.write_after(line, first, marked.operation(), second);
     }
-    if marked.is_of("SKIP") && second.starts_with("JUMP ALWAYS, 0, t1 ") {
+    if marked.is_of("SKIP") && second.starts_with("JUMP ") && second.ends_with(" goes anywhere") {
         return propose_far(out, marked, first);
     }
     Ok(())
+}
+
+/// Whether a statement puts a number into a register, and a base and a displacement of 0 are that register's.
+fn is_pointer(first: &str, second: &str) -> bool {
+    match (first.strip_prefix("LIT "), second.strip_suffix(", 0")) {
+        (Some(written), Some(base)) => match written.split_once(", ") {
+            Some((register, _)) => register == base,
+            None => false,
+        },
+        _ => false,
+    }
 }
 
 /// Proposes a JUMP with the condition of a SKIP that does not reach so far.

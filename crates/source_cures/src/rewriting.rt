@@ -90,10 +90,22 @@ fn propose_written(out: &mut Proposals, marked: &Marked, text: &str) -> Result<(
     {
         return propose_name(out, marked, name);
     }
-    if marked.is_of("TLIT") && text.starts_with("TLIT ") {
+    let text = match text.split_once(" for the word ") {
+        Some((front, _)) => front,
+        None => text,
+    };
+    if is_statement_of(text, text_of(marked.head())) {
         return out.write(&marked.line, marked.operation(), text);
     }
     Ok(())
+}
+
+/// Whether a text is a head with operands.
+fn is_statement_of(text: &str, head: &str) -> bool {
+    match text.strip_prefix(head) {
+        Some(operands) => operands.starts_with(" ") && !head.is_empty(),
+        None => false,
+    }
 }
 
 /// The operation that alone is to be written: `MUL`, `SHL, which ..`, `ADD: its ..`.
@@ -158,6 +170,14 @@ fn propose_other_part(out: &mut Proposals, marked: &Marked) -> Result<(), AllocE
         let text = format!(in out.alloc(); "ADD {}, {}, 0", text_of(*to), text_of(*from))?;
         out.write(&marked.line, marked.operation(), text.as_str())
     } else {
-        Ok(())
+        propose_moved(out, marked)
+    }
+}
+
+/// Proposes the statement that moves a register: `TSET t1, r2 moves it ..`, `TGET r1, t2 moves it ..`.
+fn propose_moved(out: &mut Proposals, marked: &Marked) -> Result<(), AllocError> {
+    match marked.help.split_once(" moves it to a ") {
+        Some((text, _)) => out.write(&marked.line, marked.operation(), text),
+        None => Ok(()),
     }
 }

@@ -1,7 +1,7 @@
 //! Too many operands, or too few.
 
 use crate::data_words::put_data_help;
-use crate::examples::put_example;
+use crate::examples::{put_example, shows_all};
 use crate::form::OperandForm;
 use crate::left_out::{label_to_go_to, put_address_help, with_left_out};
 use crate::operand_notes::Taking;
@@ -70,89 +70,51 @@ fn put_count_help(
     if put_address_help(&mut notes.help, reader, taking, head, &words)? {
         return Ok(());
     }
-    let opening = opening_of(notes.alloc(), reader, taking, pieces.len(), &words)?;
-    put_statement(&mut notes.help, reader, taking, head, words, opening)
+    put_statement(&mut notes.help, reader, taking, head, pieces.len(), &words)
 }
 
-/// What stands before a statement that has as many operands as it takes, of so many that were written, and these words. It is an
-/// example alone, if there are too few, and one of the words is no operand: the statement leaves that word out.
+/// What stands before a statement that is made of these words. It is an example alone if it leaves a word out.
 fn opening_of(
     alloc: Global,
     reader: &Reader,
     taking: Taking,
-    count: usize,
     words: &[Token],
+    lacks_commas: bool,
 ) -> Result<&'static str, AllocError> {
-    if count >= taking.least {
-        return Ok("write ");
-    }
-    let lacks_commas = words.len() > count;
-    if are_operands(alloc, reader, taking.forms, words)? {
-        Ok(if lacks_commas {
-            "commas stand between operands: write "
-        } else {
-            "write "
-        })
-    } else {
-        Ok(if lacks_commas {
-            "commas stand between operands, as in "
-        } else {
-            "as in "
-        })
-    }
+    let is_whole = shows_all(alloc, reader, taking.forms, words)?;
+    Ok(match (is_whole, lacks_commas) {
+        (true, true) => "commas stand between operands: write ",
+        (true, false) => "write ",
+        (false, true) => "commas stand between operands, as in ",
+        (false, false) => "as in ",
+    })
 }
 
-/// Whether each of the first words, as many as there are forms, may stand as an operand of one of these forms.
-fn are_operands(
-    alloc: Global,
-    reader: &Reader,
-    forms: &[OperandForm],
-    words: &[Token],
-) -> Result<bool, AllocError> {
-    for word in words.iter().take(forms.len()) {
-        if !is_operand(alloc, reader, forms, word.bytes)? {
-            return Ok(false);
-        }
-    }
-    Ok(true)
-}
-
-/// Whether a word may stand as an operand of one of these forms.
-fn is_operand(
-    alloc: Global,
-    reader: &Reader,
-    forms: &[OperandForm],
-    word: &[u8],
-) -> Result<bool, AllocError> {
-    for form in forms {
-        if reader.operand_fault(alloc, *form, word)?.is_none() {
-            return Ok(true);
-        }
-    }
-    Ok(false)
-}
-
-/// Adds a statement that has as many operands as it takes.
+/// Adds a statement that has as many operands as it takes, where so many were written, of these words.
 fn put_statement(
     help: &mut TextWriter,
     reader: &Reader,
     taking: Taking,
     head: Token,
-    words: Vec<Token>,
-    opening: &'static str,
+    count: usize,
+    words: &[Token],
 ) -> Result<(), AllocError> {
-    let label = label_to_go_to(help.alloc(), reader, taking, &words)?;
+    let alloc = help.alloc();
+    let label = label_to_go_to(alloc, reader, taking, words)?;
+    let shown = with_left_out(alloc, reader, taking, words, label.is_some())?;
     match label {
         Some(label) => {
             help.put("TLIT t1, ");
             put_shown(help, label.bytes);
             help.put(" comes first, and then ");
         }
-        None => help.put(opening),
+        None => {
+            let lacks_commas = count < taking.least && words.len() > count;
+            help.put(opening_of(alloc, reader, taking, &shown, lacks_commas)?);
+        }
     }
-    let words = with_left_out(help.alloc(), reader, taking, &words, label.is_some())?;
     put_shown(help, head.bytes);
-    put_example(help, reader, taking.forms, &words)
+    put_example(help, reader, taking.forms, &shown)
 }
 
 /// What is said of operands that are written as on other machines, or of several values in one line of data.

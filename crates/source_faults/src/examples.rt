@@ -36,6 +36,22 @@ pub(crate) fn put_example(
     Ok(())
 }
 
+/// Whether all words, or as many as there are forms, stand in the example that is made of them.
+pub(crate) fn shows_all(
+    alloc: Global,
+    reader: &Reader,
+    forms: &[OperandForm],
+    words: &[Token],
+) -> Result<bool, AllocError> {
+    let mut next = 0usize;
+    for form in forms {
+        if fitting(alloc, reader, *form, words.get(next).copied())?.is_some() {
+            next = next.saturating_add(1);
+        }
+    }
+    Ok(next == words.len().min(forms.len()))
+}
+
 /// The word, where it may stand as an operand of this form.
 fn fitting<'t>(
     alloc: Global,

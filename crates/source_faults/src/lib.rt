@@ -21,6 +21,7 @@ mod operations;
 mod phrases;
 mod pieces;
 mod reader;
+mod references;
 mod sources;
 mod statement_notes;
 mod text_notes;

@@ -1,13 +1,21 @@
 //! Numbers that are written as on other machines.
 
 use crate::form::OperandForm;
+use crate::operand_notes::Taken;
+use crate::reader::Reader;
+use crate::references::{LAST_LITERAL, free_register, is_register};
 use fault_messages::put_shown;
 use plain_text::TextWriter;
 use text_parts::{Base, Number, read_digits};
 
 /// Adds what to write for an operand of this form that looks like a number, and answers whether it looks like one.
-pub(crate) fn put_number_help(help: &mut TextWriter, form: OperandForm, operand: &[u8]) -> bool {
-    put_marked_help(help, form, operand)
+pub(crate) fn put_number_help(
+    help: &mut TextWriter,
+    reader: &Reader,
+    taken: Taken,
+    operand: &[u8],
+) -> bool {
+    put_marked_help(help, reader, taken, operand)
         || put_hexadecimal_help(help, hexadecimal_digits(operand))
         || put_binary_help(help, operand)
         || put_letter_help(help, operand)
@@ -16,13 +24,13 @@ pub(crate) fn put_number_help(help: &mut TextWriter, form: OperandForm, operand:
 }
 
 /// Adds what to write for decimal digits with a mark before them, and answers whether the operand is such.
-fn put_marked_help(help: &mut TextWriter, form: OperandForm, operand: &[u8]) -> bool {
+fn put_marked_help(help: &mut TextWriter, reader: &Reader, taken: Taken, operand: &[u8]) -> bool {
     let digits = operand.get(1..).unwrap_or(b"");
     if !are_decimal(digits) {
         return false;
     }
     match operand.first() {
-        Some(b'-') => put_negative_help(help, form, digits),
+        Some(b'-') => put_negative_help(help, reader, taken, digits),
         Some(b'#' | b'$' | b'=' | b'+') => {
             put_written(help, "a number stands alone: write ", digits)
         }
@@ -119,22 +127,44 @@ fn put_written(help: &mut TextWriter, words: &str, digits: &[u8]) {
 }
 
 /// Adds what to write for a number with a minus before these digits.
-fn put_negative_help(help: &mut TextWriter, form: OperandForm, digits: &[u8]) {
+fn put_negative_help(help: &mut TextWriter, reader: &Reader, taken: Taken, digits: &[u8]) {
     help.put("no sign may stand here");
-    match (form, decimal(digits)) {
-        (OperandForm::Source, _) => {
+    let name = taken.taking.name;
+    match (taken.form, decimal(digits)) {
+        (OperandForm::Source, Some(number)) if number < 32 && (name == "ADD" || name == "SUB") => {
             put_written(help, ": SUB subtracts ", digits);
             help.put(", ADD adds it");
         }
-        (OperandForm::Value | OperandForm::Pc, _) => {
-            put_written(help, ": LIT r1, ", digits);
-            help.put(" and then SUB r1, r0, r1");
+        (OperandForm::Source, Some(number)) if number <= LAST_LITERAL => {
+            let register = free_register(reader);
+            put_negated(help, register.as_bytes(), digits);
+            put_written(help, " put -", digits);
+            help.put_all(&[" into ", register]);
+        }
+        (OperandForm::Value, Some(number)) if number <= LAST_LITERAL && name == "LIT" => {
+            put_negated(help, first_register(taken), digits)
         }
         (OperandForm::Word, Some(number)) => {
             help.put(": write 0x");
             help.put_capital_digits(0u64.wrapping_sub(number));
         }
         _ => {}
+    }
+}
+
+/// Adds how a register becomes the number below 0 with these digits.
+fn put_negated(help: &mut TextWriter, register: &[u8], digits: &[u8]) {
+    put_written(help, ": LIT ", register);
+    put_written(help, ", ", digits);
+    put_written(help, " and then SUB ", register);
+    put_written(help, ", r0, ", register);
+}
+
+/// The register that the statement begins with; r1 where it begins with none.
+fn first_register<'a>(taken: Taken<'a>) -> &'a [u8] {
+    match taken.operands {
+        [first, ..] if is_register(first.bytes) => first.bytes,
+        _ => b"r1",
     }
 }
 

@@ -1,7 +1,7 @@
 //! What is wrong with operands.
 
 use crate::count_notes::note_count;
-use crate::data_words::put_data_help;
+use crate::data_words::{is_data, put_data_help};
 use crate::form::OperandForm;
 use crate::operand_words::{
     put_form_help, put_missing_label_help, put_range_help, put_range_words,
@@ -21,11 +21,13 @@ pub(crate) struct Taking<'a> {
     pub(crate) least: usize,
 }
 
-/// An operand that is taken: of what, at which place from 0 on, and what it has to be.
+/// An operand that is taken: of what, with its head and all operands, at which place from 0 on, and what it has to be.
 #[derive(Clone, Copy)]
 pub(crate) struct Taken<'a> {
-    taking: Taking<'a>,
-    place: usize,
+    pub(crate) taking: Taking<'a>,
+    pub(crate) head: Token<'a>,
+    pub(crate) operands: &'a [Token<'a>],
+    pub(crate) place: usize,
     pub(crate) form: OperandForm,
 }
 
@@ -54,8 +56,8 @@ pub(crate) fn note_operands(
     let pieces = operand_pieces(notes.alloc(), operands)?;
     if pieces.len() < taking.least || pieces.len() > taking.forms.len() {
         note_count(notes, reader, taking, head, operands, &pieces)
-    } else if !note_turned(notes, reader, taking, &pieces)? {
-        note_each(notes, reader, taking, &pieces)
+    } else if !note_turned(notes, reader, taking, head, &pieces)? {
+        note_each(notes, reader, taking, head, &pieces)
     } else {
         Ok(())
     }
@@ -70,59 +72,89 @@ fn operand_pieces<'t>(alloc: Global, operands: Token<'t>) -> Result<Vec<Token<'t
     }
 }
 
-/// Notes that a label stands before the target register of TLIT, which takes it last, and answers whether one does.
-fn note_turned(
+/// Notes that two operands stand in the other order, and answers whether they do.
+fn note_turned<'a>(
     notes: &mut Notes,
     reader: &Reader,
-    taking: Taking,
-    pieces: &[Token],
+    taking: Taking<'a>,
+    head: Token<'a>,
+    pieces: &'a [Token<'a>],
 ) -> Result<bool, AllocError> {
-    let [label, target] = pieces else {
+    let [first, second] = pieces else {
         return Ok(false);
     };
-    let alloc = notes.alloc();
-    let form = OperandForm::Target;
-    if taking.name != "TLIT"
-        || reader.place_of(label.bytes).is_none()
-        || reader.operand_fault(alloc, form, label.bytes)?.is_none()
-        || reader.operand_fault(alloc, form, target.bytes)?.is_some()
-    {
+    if !are_turned(notes, reader, taking, *first, *second)? {
         return Ok(false);
     }
-    notes.help.put("write TLIT ");
-    put_shown(&mut notes.help, target.bytes);
+    notes.help.put("write ");
+    put_shown(&mut notes.help, head.bytes);
+    notes.help.put(" ");
+    put_shown(&mut notes.help, second.bytes);
     notes.help.put(", ");
-    put_shown(&mut notes.help, label.bytes);
-    let taken = Taken {
-        taking,
-        place: 0,
-        form,
-    };
-    put_form_words(&mut notes.words, taken, *label);
+    put_shown(&mut notes.help, first.bytes);
+    put_form_words(&mut notes.words, taken_first(taking, head, pieces), *first);
     notes.number(Fault::Operand.number());
-    notes.add(reader.spot(*label))?;
+    notes.add(reader.spot(*first))?;
     Ok(true)
 }
 
-/// Notes what is wrong with each of as many operands as may stand there.
-fn note_each(
+/// The first operand of two that stand in the other order.
+fn taken_first<'a>(taking: Taking<'a>, head: Token<'a>, operands: &'a [Token<'a>]) -> Taken<'a> {
+    Taken {
+        taking,
+        head,
+        operands,
+        place: 0,
+        form: taking
+            .forms
+            .first()
+            .copied()
+            .unwrap_or(OperandForm::Register),
+    }
+}
+
+/// Whether two operands are right in the other order alone. Those of TSET are right for TGET too, and the label of data
+/// that LIT takes is no address.
+fn are_turned(
     notes: &mut Notes,
     reader: &Reader,
     taking: Taking,
-    pieces: &[Token],
+    first: Token,
+    second: Token,
+) -> Result<bool, AllocError> {
+    let [front, back] = taking.forms else {
+        return Ok(false);
+    };
+    if taking.name == "TSET" || taking.name == "TGET" {
+        return Ok(false);
+    }
+    let alloc = notes.alloc();
+    if reader.operand_fault(alloc, *front, first.bytes)?.is_none()
+        || reader.operand_fault(alloc, *front, second.bytes)?.is_some()
+        || reader.operand_fault(alloc, *back, first.bytes)?.is_some()
+    {
+        return Ok(false);
+    }
+    Ok(!matches!(back, OperandForm::Value) || !is_data(notes, reader, first.bytes)?)
+}
+
+/// Notes what is wrong with each of as many operands as may stand there.
+fn note_each<'a>(
+    notes: &mut Notes,
+    reader: &Reader,
+    taking: Taking<'a>,
+    head: Token<'a>,
+    pieces: &'a [Token<'a>],
 ) -> Result<(), AllocError> {
     for (place, (piece, form)) in pieces.iter().zip(taking.forms).enumerate() {
-        let form = *form;
-        note_operand(
-            notes,
-            reader,
-            Taken {
-                taking,
-                place,
-                form,
-            },
-            *piece,
-        )?;
+        let taken = Taken {
+            taking,
+            head,
+            operands: pieces,
+            place,
+            form: *form,
+        };
+        note_operand(notes, reader, taken, *piece)?;
     }
     Ok(())
 }
@@ -138,7 +170,7 @@ fn note_operand(
         return Ok(());
     };
     match fault {
-        Fault::LabelMissing => note_missing_label(notes, reader, operand),
+        Fault::LabelMissing => note_missing_label(notes, reader, taken, operand),
         Fault::Range => note_range(notes, reader, taken, operand),
         Fault::NotAscii
         | Fault::Unknown
@@ -155,10 +187,11 @@ fn note_operand(
 fn note_missing_label(
     notes: &mut Notes,
     reader: &Reader,
+    taken: Taken,
     operand: Token,
 ) -> Result<(), AllocError> {
     if !put_data_help(notes, reader, OperandForm::Value, operand.bytes)? {
-        put_missing_label_help(notes, reader, operand.bytes)?;
+        put_missing_label_help(notes, reader, taken, operand.bytes)?;
     }
     notes.words.put("no line has the label ");
     put_shown(&mut notes.words, operand.bytes);
@@ -174,7 +207,7 @@ fn note_range(
     operand: Token,
 ) -> Result<(), AllocError> {
     put_range_words(&mut notes.words, reader, taken, operand.bytes);
-    put_range_help(&mut notes.help, reader, taken.form, operand.bytes);
+    put_range_help(&mut notes.help, reader, taken, operand.bytes);
     notes.number(Fault::Range.number());
     notes.add(reader.spot(operand))
 }
@@ -215,7 +248,7 @@ fn note_form(
     operand: Token,
 ) -> Result<(), AllocError> {
     if !put_data_help(notes, reader, taken.form, operand.bytes)? {
-        put_form_help(&mut notes.help, reader, taken.form, operand)?;
+        put_form_help(&mut notes.help, reader, taken, operand)?;
     }
     put_form_words(&mut notes.words, taken, operand);
     notes.number(Fault::Operand.number());

@@ -2,6 +2,7 @@
 
 use crate::foreign_names::foreign_condition;
 use crate::form::OperandForm;
+use crate::left_out::put_based_help;
 use crate::nearest::nearest_of;
 use crate::number_words::{are_capital_digits, decimal, put_number_help};
 use crate::operand_notes::Taken;
@@ -9,6 +10,7 @@ use crate::operations::{nearest_condition, operation_named};
 use crate::phrases::put_meant;
 use crate::pieces::{has_comment, split_head};
 use crate::reader::Reader;
+use crate::references::{ADDRESSES, is_register, is_target};
 use fault_messages::{Notes, Token, put_shown};
 use plain_text::TextWriter;
 use std::alloc::AllocError;
@@ -62,24 +64,33 @@ fn distance(here: usize, value: usize) -> (usize, &'static str) {
 }
 
 /// Adds how to reach what an operand of this form can't say, if anything is said of that.
-pub(crate) fn put_range_help(
-    help: &mut TextWriter,
-    reader: &Reader,
-    form: OperandForm,
-    operand: &[u8],
-) {
-    match form {
+pub(crate) fn put_range_help(help: &mut TextWriter, reader: &Reader, taken: Taken, operand: &[u8]) {
+    match taken.form {
         OperandForm::Source => help.put("LIT puts a greater number into a register"),
         OperandForm::Displacement => put_displacement_help(help, operand),
         OperandForm::Value => help.put("LITH sets the 32 high bits of a register"),
         OperandForm::Entry => help.put("a processor begins at an instruction line"),
         OperandForm::Distance if reader.place_of(operand).is_some() => {
-            help.put("TLIT t1, ");
-            put_shown(help, operand);
-            help.put(" and then JUMP ALWAYS, 0, t1 goes anywhere");
+            put_far_help(help, taken.operands, operand)
         }
         _ => {}
     }
+}
+
+/// Adds how to go to a label that SKIP with these operands does not reach.
+fn put_far_help(help: &mut TextWriter, operands: &[Token], label: &[u8]) {
+    help.put("TLIT t1, ");
+    put_shown(help, label);
+    help.put(" and then JUMP ");
+    match operands {
+        [condition, code, ..] => {
+            put_shown(help, condition.bytes);
+            help.put(", ");
+            put_shown(help, code.bytes);
+        }
+        _ => help.put("ALWAYS, 0"),
+    }
+    help.put(", t1 goes anywhere");
 }
 
 /// Adds what to write for a displacement that counts bytes.
@@ -101,15 +112,15 @@ fn put_displacement_help(help: &mut TextWriter, operand: &[u8]) {
 pub(crate) fn put_form_help(
     help: &mut TextWriter,
     reader: &Reader,
-    form: OperandForm,
+    taken: Taken,
     operand: Token,
 ) -> Result<(), AllocError> {
     if let Some(words) = joined_help(operand) {
         help.put(words);
     } else if reader.place_of(operand.bytes).is_some() {
-        put_label_help(help, form, operand.bytes);
-    } else if !put_written_help(help, form, operand.bytes)? {
-        help.put(advice(form, operand.bytes));
+        put_label_help(help, taken, operand.bytes);
+    } else if !put_written_help(help, reader, taken, operand.bytes)? {
+        help.put(advice(taken.form, operand.bytes));
     }
     Ok(())
 }
@@ -133,58 +144,82 @@ fn joined_help(operand: Token) -> Option<&'static str> {
 }
 
 /// Adds what to write where a label stands that may not.
-fn put_label_help(help: &mut TextWriter, form: OperandForm, label: &[u8]) {
-    match form {
+fn put_label_help(help: &mut TextWriter, taken: Taken, label: &[u8]) {
+    match taken.form {
         OperandForm::Register | OperandForm::Base | OperandForm::Source => {
             help.put("LIT puts the value of a label into a register")
         }
-        OperandForm::Target => {
-            help.put("TLIT t1, ");
-            put_shown(help, label);
-            help.put(" comes first, and then t1; SKIP takes a label itself");
+        OperandForm::Target => put_target_help(help, taken, label),
+        form => help.put(form.advice()),
+    }
+}
+
+/// Adds what to write for a label where a target register belongs. CALL goes to its first one, and returns by the other.
+fn put_target_help(help: &mut TextWriter, taken: Taken, label: &[u8]) {
+    if taken.taking.name == "TSET" {
+        help.put(taken.form.advice());
+        return;
+    }
+    let back = link_of(taken);
+    let target = if matches!(back, b"t1") { "t2" } else { "t1" };
+    help.put_all(&["TLIT ", target, ", "]);
+    put_shown(help, label);
+    help.put(" comes first, and then ");
+    if back.is_empty() {
+        help.put("t1; SKIP takes a label itself");
+    } else {
+        help.put_all(&["CALL ", target, ", "]);
+        put_shown(help, back);
+    }
+}
+
+/// The target register that a CALL has beside the operand; nothing where it has none.
+fn link_of<'a>(taken: Taken<'a>) -> &'a [u8] {
+    match taken.operands {
+        [first, second] if taken.taking.name == "CALL" => {
+            let other = if taken.place == 0 {
+                second.bytes
+            } else {
+                first.bytes
+            };
+            if is_target(other) { other } else { b"" }
         }
-        _ => help.put(form.advice()),
+        _ => b"",
     }
 }
 
 /// Adds what to write for an operand of this form that is written as on other machines, and answers whether it is.
 fn put_written_help(
     help: &mut TextWriter,
-    form: OperandForm,
+    reader: &Reader,
+    taken: Taken,
     operand: &[u8],
 ) -> Result<bool, AllocError> {
-    Ok(match form {
+    Ok(match taken.form {
         OperandForm::Condition => {
             put_condition_help(help, operand)?;
             true
         }
-        OperandForm::Base => put_base_help(help, operand),
+        OperandForm::Base => put_base_help(help, reader, taken, operand)?,
         OperandForm::Register | OperandForm::Target => false,
-        _ => put_number_help(help, form, operand),
+        _ => put_number_help(help, reader, taken, operand),
     })
 }
 
 /// Adds what to write for an address where a register belongs, and answers whether the operand is one.
-fn put_base_help(help: &mut TextWriter, operand: &[u8]) -> bool {
-    let Some(address) = decimal(operand) else {
-        return false;
-    };
-    if address % 8 != 0 {
-        help.put("an address is a multiple of 8: data words are at [0], [8], [16] and so on");
-        return true;
+fn put_base_help(
+    help: &mut TextWriter,
+    reader: &Reader,
+    taken: Taken,
+    operand: &[u8],
+) -> Result<bool, AllocError> {
+    match decimal(operand) {
+        Some(address) if address % 8 != 0 => {
+            help.put(ADDRESSES);
+            Ok(true)
+        }
+        _ => put_based_help(help, reader, taken.head, taken.operands),
     }
-    if address <= 248 {
-        help.put("write r0, ");
-        help.put_number(address / 8);
-    } else {
-        help.put("LIT r2, ");
-        help.put_number(address);
-        help.put(" and then r2, 0");
-    }
-    help.put(" for the word [");
-    help.put_number(address);
-    help.put("]");
-    true
 }
 
 /// What to write in place of a text that is no label.
@@ -231,27 +266,63 @@ fn put_condition_help(help: &mut TextWriter, operand: &[u8]) -> Result<(), Alloc
 pub(crate) fn put_missing_label_help(
     notes: &mut Notes,
     reader: &Reader,
+    taken: Taken,
     name: &[u8],
 ) -> Result<(), AllocError> {
-    match name {
-        [b'r', b'0'..=b'9', ..] => {
-            notes.help.put("ADD with 0 copies a register: ADD r1, ");
-            put_shown(&mut notes.help, name);
-            notes.help.put(", 0");
-        }
-        [b't', b'0'..=b'7'] => {
-            notes.help.put("JUMP ALWAYS, 0, ");
-            put_shown(&mut notes.help, name);
-            notes.help.put(" goes where ");
-            put_shown(&mut notes.help, name);
-            notes.help.put(" says");
-        }
-        _ => match nearest_label(notes, reader, name)? {
-            Some(label) => put_meant(&mut notes.help, label),
-            None => put_no_label_help(&mut notes.help, name),
-        },
+    if is_target(name) && taken.taking.name == "SKIP" {
+        put_jump_help(&mut notes.help, name);
+        return Ok(());
+    }
+    if is_target(name) || is_register(name) {
+        put_copied_help(&mut notes.help, taken, name);
+        return Ok(());
+    }
+    match nearest_label(notes, reader, name)? {
+        Some(label) => put_meant(&mut notes.help, label),
+        None => put_no_label_help(&mut notes.help, name),
     }
     Ok(())
+}
+
+/// Adds what to write for a register or a target register where a label belongs: how it is copied, if that may be meant.
+fn put_copied_help(help: &mut TextWriter, taken: Taken, name: &[u8]) {
+    let copies = taken.taking.name == "LIT" || taken.taking.name == "TLIT";
+    let first = match taken.operands {
+        [first, ..] if copies => first.bytes,
+        _ => b"",
+    };
+    match (is_register(first), is_register(name)) {
+        (true, true) => {
+            put_copy(help, "ADD with 0 copies a register: ADD ", first, name);
+            help.put(", 0");
+        }
+        (true, false) => {
+            put_copy(help, "TGET ", first, name);
+            help.put(" moves it to a register");
+        }
+        (false, true) if is_target(first) => {
+            put_copy(help, "TSET ", first, name);
+            help.put(" moves it to a target register");
+        }
+        _ => help.put("write a number or a label, and no register"),
+    }
+}
+
+/// Adds an operation with two operands.
+fn put_copy(help: &mut TextWriter, operation: &str, first: &[u8], second: &[u8]) {
+    help.put(operation);
+    put_shown(help, first);
+    help.put(", ");
+    put_shown(help, second);
+}
+
+/// Adds how a stream goes where a target register says, which stands where SKIP has a label.
+fn put_jump_help(help: &mut TextWriter, name: &[u8]) {
+    help.put("JUMP ALWAYS, 0, ");
+    put_shown(help, name);
+    help.put(" goes where ");
+    put_shown(help, name);
+    help.put(" says");
 }
 
 /// Adds how a name is written that is near no label.
