@@ -1,5 +1,5 @@
 -- A set of steps that is apart from those of all others can be taken before all of them.
-use Rattle.std.proofs.Common.{◌≡◌, ◌≢◌, ℕ, ◌⊎◌, inl, inr, Bool, true, false, refl, sym, ap, ◌∙◌, subst, List, [], Option, Some, None, slice_get}
+use Rattle.std.proofs.Common.{◌≡◌, ◌≢◌, ℕ, ◌⊎◌, inl, inr, Bool, true, false, refl, sym, ap, ◌∙◌, subst, List, [], ◌∷◌, Option, Some, None, slice_get}
 use Rattle.std.specs.List.{Contains}
 use Rattle.insn_word.specs.declared.insn.Insn.{Insn}
 use Rattle.tag_memory.specs.Unforwarded.{IsUnforwarded}
@@ -13,12 +13,12 @@ use Rattle.stream_core.specs.declared.steps.Fetch.TheVariants as fetch
 use Rattle.processor.specs.Processors.{ProcessorValue, stream_at}
 use Rattle.processor.specs.Records.{is_running}
 use Rattle.processor.specs.Row.{memory_reply}
-use Rattle.processor.specs.World.{World, after, outcome_of}
+use Rattle.processor.specs.World.{World, after, steps, outcome_of}
 use Rattle.processor.specs.declared.steps.Step.{Step}
 use Rattle.waiting.specs.Running.{streams_at}
 use Rattle.local_steps.specs.NeverAsking.{AsksForNone}
 use Rattle.local_steps.specs.SettledEndings.{stream_in}
-use Rattle.agreeing_ends.specs.FirstSets.{IsFirstSet}
+use Rattle.agreeing_ends.specs.FirstSets.{AreOutside, IsFirstSet}
 use Rattle.agreeing_ends.proofs.FreeSets.{first_by}
 use Rattle.agreeing_ends.proofs.Moving.{same_step}
 use Rattle.touched_words.specs.TouchTables.{TouchValue}
@@ -62,6 +62,8 @@ module _ (image : ImageValue) (tables : List TouchValue) (w : World) (set : List
     ran : (u : Step) → ¬ (Contains set u) → is_running (stream_in v u.p u.s) ≡ true
         → is_running (stream_in w u.p u.s) ≡ true
     outcome : outcome_of image v a.key ≡ outcome_of image w a.key
+    replies : (t : Step) (c : Contains set t)
+        → (memory_reply v.memory (Some (a.members t c).request)).1 ≡ (memory_reply w.memory (Some (a.members t c).request)).1
 
   -- Of a stream of others that runs.
   module _ (v : World) (u : Step) (runs : is_running (stream_in v u.p u.s) ≡ true)
@@ -157,6 +159,10 @@ module _ (image : ImageValue) (tables : List TouchValue) (w : World) (set : List
             (Some (a.members a.key a.there).request) f (h.members a.key a.there) (other a.key u a.there none)
             (pair v h u none runs held a.key a.there)
             ∙ h.outcome;
+        replies = λ t c.
+            ap (λ (x : World). (memory_reply x.memory (Some (a.members t c).request)).1) (swap.moved image v u s o f)
+            ∙ (pair v h u none runs held t c).second
+            ∙ h.replies t c;
       }
 
   kept : (v : World) (u : Step) → Holds v → ¬ (Contains set u) → Holds (after image v u)
@@ -189,7 +195,34 @@ module _ (image : ImageValue) (tables : List TouchValue) (w : World) (set : List
     ];
     ran = λ u none runs. runs;
     outcome = refl;
+    replies = λ t c. refl;
   }
+
+  -- so it is after each schedule of others
+  holds_after : (v : World) (us : List Step) → Holds v → AreOutside set us → Holds (steps image v us)
+  holds_after v [] h out = h
+  holds_after v (u ∷ us) h out = holds_after (after image v u) us (kept v u h out.0) out.1
+
+  module _ (us : List Step) (out : AreOutside set us) (t : Step) (c : Contains set t) where
+    abbrev there_now : World
+    there_now = steps image w us
+
+    -- a step of the set asks for the same, and gets the same reply
+    pub asks_still : IsRequestStep image there_now t (a.members t c).stream (Some (a.members t c).request)
+    asks_still = (holds_after w us begins out).members t c
+
+    pub replied_still : (memory_reply there_now.memory (Some (a.members t c).request)).1
+        ≡ (memory_reply w.memory (Some (a.members t c).request)).1
+    replied_still = (holds_after w us begins out).replies t c
+
+    -- its step leaves the memory that this request leaves
+    pub memory_then : (after image there_now t).memory ≡ (memory_reply there_now.memory (Some (a.members t c).request)).0
+    memory_then =
+        ap (λ (x : World). x.memory)
+        (swap.moved image there_now t (a.members t c).stream (Some (a.members t c).request) asks_still)
+
+    pub unforwarded_still : IsUnforwarded there_now.memory
+    unforwarded_still = (holds_after w us begins out).unforwarded
 
   pub first_apart : IsFirstSet image w set
   first_apart =

@@ -5,3 +5,4 @@ pub mod Members
 pub mod ZeroRegisters
 pub mod NeverForwarded
 pub mod OneMore
+pub mod OtherWords

@@ -45,6 +45,18 @@ shown_there size w t s seen = by (slice_get w.processors t.p) refl seen where
   by None there e = cc
   by (Some proc) there e = (proc, (there, by_room (nat_lt t.s size) proc e))
 
+some_same : {A : Type 0} {x y : A} → Some x ≡ Some y → x ≡ y
+some_same e = cc
+
+-- the stream that is shown is the one that makes a request
+pub shown_same : (size : ℕ) (image : ImageValue) (w : World) (t : Step) (s x : StreamValue) (q : Option Request)
+    → stream_of size w t.p t.s ≡ Some s → IsRequestStep image w t x q → s ≡ x
+shown_same size image w t s x q seen f =
+    let at = shown_there size w t s seen in
+    sym at.1.1
+    ∙ ap (λ (p : ProcessorValue). stream_at p.streams t.s) (some_same (sym at.1.0 ∙ f.there))
+    ∙ f.is
+
 pub shown_makes : (size : ℕ) (image : ImageValue) (w : World) (t : Step) (s : StreamValue) (i : Insn) (q : Request)
     → stream_of size w t.p t.s ≡ Some s → fetch_of image.profile image.program s ≡ fetch.Instruction i
     → AsksForNone (control_of s i) → request_of s i ≡ Some q → IsRequestStep image w t s (Some q)

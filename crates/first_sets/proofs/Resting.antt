@@ -88,7 +88,7 @@ module _ (image : ImageValue) (w : World) (t : Step) (s : StreamValue) (q : Opti
   abbrev to : ProcessorValue
   to = into image t.s s f.request.insn reply f.processor
 
-  here : stream_in w t.p t.s ≡ s
+  pub here : stream_in w t.p t.s ≡ s
   here = ap (λ o. stream_at (streams_at o) t.s) f.there ∙ f.is
 
   running : is_running s ≡ true

@@ -164,7 +164,7 @@ fn is_kept_off<const S: usize>(
 }
 
 /// Whether a step is one of a set.
-pub(crate) fn has(set: &[Step], step: Step) -> bool
+fn has(set: &[Step], step: Step) -> bool
     ensures { IsTrue result → Contains set.now step }
 {
     for other in set {
@@ -177,7 +177,7 @@ pub(crate) fn has(set: &[Step], step: Step) -> bool
 
 /// Whether a stream keeps off a request: it does not run, or stands at a closed place, from which its processor's table says
 /// that the request is passed.
-pub(crate) fn keeps_off<const S: usize>(
+fn keeps_off<const S: usize>(
     machine: &Machine<'_, S>,
     tables: &[TouchTable],
     step: Step,

@@ -8,10 +8,12 @@ ghost use Rattle.waiting.specs.Running.{runs_in};
 ghost use Rattle.touched_words.specs.ClosedTables.{IsClosedTable};
 ghost use Rattle.first_sets.specs.ApartSets.{table_at, IsApartSet};
 
-use crate::deciding::{has, is_apart_set, keeps_off, request_of};
+use crate::deciding::{is_apart_set, request_of};
 use machine::Machine;
 use processor::Step;
 use std::alloc::{AllocError, Global};
+use stream_core::Stream;
+use tag_memory::Request;
 use touched_words::TouchTable;
 
 /// A set of steps that is apart from those of all others in a machine's world, by the tables of its processors: the least of
@@ -28,54 +30,129 @@ pub fn apart_set<const S: usize>(
     requires running { (t : Step) → IsTrue (runs_in machine.now.world t) → Contains running.now t }
     ensures { IfOk result (λ o. IfSome o (λ set. IsApartSet machine.now.image tables.now machine.now.world set.items)) }
 {
+    let runners = runners_of(alloc, machine, tables, running)?;
+    let mut members = Vec::new(alloc);
+    let mut most = running.len();
     let mut least: Option<Vec<Step>> = None;
-    for first in running {
-        let set = grown_set(alloc, machine, tables, running, *first)?;
-        let most = match &least {
-            Some(found) => found.len(),
-            None => running.len(),
-        };
-        if set.len() < most && is_apart_set(machine, tables, running, &set) {
+    for first in 0..running.len() {
+        if !is_grown_below(tables, &runners, first, most, &mut members)? {
+            continue;
+        }
+        let set = steps_of(alloc, &runners, &members)?;
+        if is_apart_set(machine, tables, running, &set) {
+            most = set.len();
             least = Some(set);
         }
     }
     Ok(least)
 }
 
-/// The set of a step and of all that may meet one of it.
-fn grown_set<const S: usize>(
+/// A stream that runs, as the requests of others may meet those that it comes to.
+#[derive(Clone, Copy)]
+struct Runner {
+    step: Step,
+    /// What its step asks for, where it executes an instruction that makes a request and asks for no stream.
+    request: Option<Request>,
+    /// Where it is in its program.
+    place: u32,
+    /// Whether it stands there by its processor's table.
+    is_standing: bool,
+}
+
+/// The streams of these steps.
+fn runners_of<const S: usize>(
     alloc: Global,
     machine: &Machine<'_, S>,
     tables: &[TouchTable],
     running: &[Step],
-    first: Step,
-) -> Result<Vec<Step>, AllocError> {
-    let mut set = Vec::new(alloc);
-    set.push(first)?;
-    for at in 0..running.len() {
-        let Some(step) = set.get(at).copied() else {
-            break;
-        };
-        add_who_meets(machine, tables, running, step, &mut set)?;
+) -> Result<Vec<Runner>, AllocError> {
+    let mut runners = Vec::new(alloc);
+    for step in running {
+        if let Some(stream) = machine.stream(step.p, step.s) {
+            runners.push(Runner {
+                step: *step,
+                request: request_of(machine, *step),
+                place: stream.ssw().pc,
+                is_standing: stands(tables, *step, stream),
+            })?;
+        }
     }
-    Ok(set)
+    Ok(runners)
 }
 
-/// Adds the steps of the streams that may meet the request of one.
-fn add_who_meets<const S: usize>(
-    machine: &Machine<'_, S>,
+/// Whether the stream of a step stands by the table of its processor.
+fn stands(tables: &[TouchTable], step: Step, stream: &Stream) -> bool {
+    match tables.get(usize::from(step.p)) {
+        None => false,
+        Some(table) => table.is_standing(stream),
+    }
+}
+
+/// Makes the members those of the set of one stream and of all that may meet the request of one of it, and says whether they
+/// are fewer than `most` and all make a request. Else they are some of them.
+fn is_grown_below(
     tables: &[TouchTable],
-    running: &[Step],
-    step: Step,
-    set: &mut Vec<Step>,
+    runners: &[Runner],
+    first: usize,
+    most: usize,
+    members: &mut Vec<usize>,
+) -> Result<bool, AllocError> {
+    members.clear();
+    members.push(first)?;
+    for at in 0..runners.len() {
+        if members.len() >= most {
+            return Ok(false);
+        }
+        let Some(member) = members.get(at).copied() else {
+            return Ok(true);
+        };
+        let Some(
+            Runner {
+                request: Some(request),
+                ..
+            },
+        ) = runners.get(member)
+        else {
+            return Ok(false);
+        };
+        add_who_meets(tables, runners, request, members)?;
+    }
+    Ok(false)
+}
+
+/// Adds the streams that may meet a request.
+fn add_who_meets(
+    tables: &[TouchTable],
+    runners: &[Runner],
+    request: &Request,
+    members: &mut Vec<usize>,
 ) -> Result<(), AllocError> {
-    let Some(request) = request_of(machine, step) else {
-        return Ok(());
-    };
-    for other in running {
-        if !has(set, *other) && !keeps_off(machine, tables, *other, &request) {
-            set.push(*other)?;
+    for (place, runner) in runners.iter().enumerate() {
+        if may_meet(tables, runner, request) && !members.contains(&place) {
+            members.push(place)?;
         }
     }
     Ok(())
+}
+
+/// Whether a stream may come to meet a request.
+fn may_meet(tables: &[TouchTable], runner: &Runner, request: &Request) -> bool {
+    if !runner.is_standing {
+        return true;
+    }
+    match tables.get(usize::from(runner.step.p)) {
+        None => true,
+        Some(table) => !table.is_passed(runner.place, request),
+    }
+}
+
+/// The steps of the members.
+fn steps_of(alloc: Global, runners: &[Runner], members: &[usize]) -> Result<Vec<Step>, AllocError> {
+    let mut steps = Vec::new(alloc);
+    for member in members {
+        if let Some(runner) = runners.get(*member) {
+            steps.push(runner.step)?;
+        }
+    }
+    Ok(steps)
 }

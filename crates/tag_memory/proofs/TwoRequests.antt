@@ -48,7 +48,7 @@ at_end_but m q (at.Trap kind a) = record { chain = refl; cells = λ b apart. ref
 at_end_but m q (at.Last p c) =
     by_effect_but m (address_of p) (effect q.op (access_control q.acc q.pointer) c q.value)
 
-answered_but : (m : TaggedMemory) (q : Request) → AreSameBut (last_word m q) (answer m q).0 m
+pub answered_but : (m : TaggedMemory) (q : Request) → AreSameBut (last_word m q) (answer m q).0 m
 answered_but m q = at_end_but m q (end_of m q)
 
 -- where a request ends that leaves out word k

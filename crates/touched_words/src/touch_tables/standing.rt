@@ -3,14 +3,13 @@
 ghost use Rattle.std.specs.Prelude.{◌≡◌, IsTrue};
 ghost use Rattle.stream_core.specs.Registers.{target_at};
 ghost use Rattle.stream_core.specs.Streams.{no_handler};
-ghost use Rattle.tag_memory.specs.ReadRequests.{may_change};
 ghost use Rattle.touched_words.specs.TouchTables.{HoldsKnown};
 ghost use Rattle.touched_words.specs.Standing.{IsStanding, IsPassedFrom};
 
 use super::TouchTable;
 use crate::rows::{is_closed, is_marked, known_at, marks_at};
 use stream_core::Stream;
-use tag_memory::{Acc, MemOp, Request};
+use tag_memory::Request;
 
 /// The pc that names no trap handler.
 const NO_HANDLER: u32 = u32::MAX;
@@ -40,27 +39,13 @@ impl TouchTable {
         let touches = marks_at(&self.touches, place);
         let changes = marks_at(&self.changes, place);
         let asked = request.pointer.address() / WORD_BYTES;
-        let is_changing = may_change(request);
+        let is_changing = request.may_change();
         for (at, word) in self.words.iter().enumerate() {
             if *word == asked && is_marked(touches, at) && (is_changing || is_marked(changes, at)) {
                 return false;
             }
         }
         true
-    }
-}
-
-/// Whether a request may change its word.
-fn may_change(request: &Request) -> bool
-    ensures { result ≡ may_change request.now.op request.now.acc }
-{
-    match request.op {
-        MemOp::Load => match request.acc {
-            Acc::Normal | Acc::Future => false,
-            Acc::FromPointer | Acc::Sync => true,
-        },
-        MemOp::TagGet => false,
-        MemOp::Store | MemOp::Fadd | MemOp::TagSet | MemOp::Purge => true,
     }
 }
 
