@@ -88,6 +88,7 @@ together_unseen R P v from one = record {
   };
   step = one.step;
   there = in_front one.step [];
+  taken = one.taken;
   later = one.later;
   unseen = λ us out. one.unseen us (others_of one.step us out);
 }

@@ -39,7 +39,8 @@ pub record IsTakenTogetherUnseen (R : World → World → Type 0) (P : World →
   pub together : IsTakenTogether R v from
   pub step : Step
   pub there : Contains together.set step
-  pub later : from < (together.taken step there).to
+  pub taken : IsTaken R v from step
+  pub later : from < taken.to
   pub unseen : (us : List Step) → AreOutside together.set us
       → P (after v.image (steps v.image (v.world from) us) step) → P (steps v.image (v.world from) us)
 

@@ -8,5 +8,5 @@ mod looking;
 mod missing;
 
 pub use claim::{Claim, ClaimForm, NumberOrder, Scope, WordTest};
-pub use looking::places_looked_at;
+pub use looking::{places_looked_at, words_looked_at};
 pub use missing::Missing;

@@ -1,7 +1,8 @@
 //! At which places of a program claims look.
 
-ghost use Rattle.std.specs.Prelude.{◌≡◌, ◌≤◌, ℕ, false, slice_index_or, IfOk};
-ghost use Rattle.claims.specs.Looking.{form_looks_at, is_looked_at};
+ghost use Rattle.std.specs.Prelude.{◌≡◌, ◌≤◌, ℕ, false, slice_index_or, IsTrue, IfOk, OnOk};
+ghost use Rattle.std.specs.List.{Contains};
+ghost use Rattle.claims.specs.Looking.{form_looks_at, is_looked_at, form_looks_at_word, is_word_looked_at};
 
 use crate::claim::{Claim, ClaimForm};
 use std::alloc::{AllocError, Global};
@@ -17,6 +18,31 @@ pub fn places_looked_at(alloc: Global, claims: &[Claim]) -> Result<Vec<bool>, Al
         places.push(is_looked_at(claims, place))?;
     }
     Ok(places)
+}
+
+/// The byte addresses of the words at which some claims look: all of them.
+pub fn words_looked_at(alloc: Global, claims: &[Claim]) -> Result<Vec<u64>, AllocError>
+    ensures { IfOk result (λ v. (a : ℕ) → IsTrue (is_word_looked_at claims.now a) → Contains v.items a) }
+{
+    let mut words = Vec::new(alloc);
+    for claim in claims {
+        add_word(&mut words, &claim.form)?;
+    }
+    Ok(words)
+}
+
+/// Adds the word at which a form of claim looks, if it looks at one.
+fn add_word(words: &mut Vec<u64>, form: &ClaimForm) -> Result<(), AllocError>
+    ensures more { OnOk result ((a : ℕ) → Contains words.old.items a → Contains words.new.items a) }
+    ensures added { OnOk result ((a : ℕ) → IsTrue (form_looks_at_word a form.now) → Contains words.new.items a) }
+{
+    match form {
+        ClaimForm::Word { address, .. } => {
+            words.push(*address)?;
+            Ok(())
+        }
+        ClaimForm::AtMost { .. } => Ok(()),
+    }
 }
 
 /// A place from which on no range of some claims has any.

@@ -1,8 +1,9 @@
 -- What is known of the space of a search, by what ended it.
 use Rattle.std.specs.Prelude.{IsTrue, IsFalse, IsNone, IsSome, Option, None, Some, slice_index_or, is_some, min}
+use Rattle.std.specs.List.{Contains}
 use Rattle.std.proofs.Common.{◌≡◌, ℕ, ◌<◌, ◌≤◌, ◌⊎◌, inl, inr, Bool, true, false, not, ◌||◌, List, refl, sym, ap, ◌∙◌, subst, arith}
 use Rattle.expectations.specs.declared.expectation.Expectation.{Expectation}
-use Rattle.claims.specs.Looking.{is_looked_at}
+use Rattle.claims.specs.Looking.{is_looked_at, is_word_looked_at}
 use Rattle.claims.specs.declared.claim.Claim.{Claim}
 use Rattle.program_flow.specs.Tables.{is_named_by}
 use Rattle.expectations.specs.NamedRegisters.{is_register_named}
@@ -15,7 +16,7 @@ use Rattle.space_ends.specs.ScheduleSpace.Quiet.{AllFollowedQuietly}
 use Rattle.space_ends.specs.ScheduleSpace.Answers.{space_in, is_complete, bound_in, IsFull}
 use Rattle.space_ends.proofs.ScheduleSpace.Agreeing.{agree_same}
 use Rattle.space_ends.specs.ScheduleVerdicts.NamedRegisters.{AreNamed}
-use Rattle.space_ends.specs.ScheduleVerdicts.RightSpaces.{IsQuietForClaims, IsFollowedForClaims}
+use Rattle.space_ends.specs.ScheduleVerdicts.RightSpaces.{IsFollowedForClaims}
 use Rattle.space_ends.specs.ScheduleVerdicts.ShownClaims.{TellsOfClaims}
 use Rattle.program_searches.specs.Bounds.{IsBoundBy}
 use Rattle.program_searches.specs.Searches.{takes_all, most_worlds, HasNeededWorlds, IsSearched}
@@ -92,13 +93,16 @@ of_first asked most v b s = record {
   missing = λ states _. cc;
 }
 
--- places that are reported are covered
-pub shown_by : (v : SpaceValue) (claims : List Claim) (places looked_at : List Bool) → looked_at ≡ places
-    → ((k : ℕ) → slice_index_or places k false ≡ is_looked_at claims k) → AllFollowedQuietly looked_at v
-    → IsQuietForClaims v claims
-shown_by v claims places looked_at same reported quiet = record {
+-- places and words that are reported are covered
+pub shown_by : (v : SpaceValue) (claims : List Claim) (places looked_at : List Bool) (reported words : List ℕ)
+    → looked_at ≡ places → words ≡ reported → ((k : ℕ) → slice_index_or places k false ≡ is_looked_at claims k)
+    → ((a : ℕ) → IsTrue (is_word_looked_at claims a) → Contains reported a) → AllFollowedQuietly looked_at words v
+    → IsFollowedForClaims v claims
+shown_by v claims places looked_at reported words same alike each named quiet = record {
   looked_at = looked_at;
-  covers = λ k is. ap (λ (bs : List Bool). slice_index_or bs k false) same ∙ reported k ∙ is;
+  words = words;
+  covers = λ k is. ap (λ (bs : List Bool). slice_index_or bs k false) same ∙ each k ∙ is;
+  covers_words = λ a is. subst (λ (ws : List ℕ). Contains ws a) (sym alike) (named a is);
   quiet = quiet;
 }
 

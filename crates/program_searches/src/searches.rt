@@ -4,10 +4,10 @@
 //! complete, what ended it, the first rule that is broken, the first claim that none shows, who can wait forever, and
 //! whether all is right. They are made once, in `explore_on`, of values alone; whoever prints them decides nothing more.
 //!
-//! **Three searches.** All worlds are looked for if that is asked for, and if no stream is to loop alone, or to wait forever: a
+//! **Two searches.** All worlds are looked for if that is asked for, and if no stream is to loop alone, or to wait forever: a
 //! space of fewer worlds says nothing of that. Otherwise `explore_ends` looks for what is needed: it names each register at which an
-//! expectation looks, and each place at which a claim looks. Where nothing is claimed `explore_ends_by_sets` leaves out
-//! more. So ends and claims are judged by few worlds, and the verdict is that of every schedule.
+//! expectation looks, and each place and word at which a claim looks. So ends and claims are judged by few worlds, and the
+//! verdict is that of every schedule.
 //!
 //! **Which invariant.** `IsSearched` ties the space to what ended the search, not to a flag beside it. `is_complete` is
 //! made of the bound, so that the two can't disagree. The watcher keeps which of its own two bounds it has ended a search

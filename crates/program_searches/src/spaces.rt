@@ -1,6 +1,6 @@
 //! The worlds that a search finds, and what ended it.
 
-ghost use Rattle.std.specs.Prelude.{◌≡◌, [], Some, IsTrue, IsFalse, IfOk};
+ghost use Rattle.std.specs.Prelude.{◌≡◌, Some, IsTrue, IsFalse, IfOk};
 ghost use Rattle.space_ends.specs.ScheduleSpaceTypes.Bound.{Bound};
 ghost use Rattle.space_ends.specs.ScheduleSpace.Answers.{space_in, bound_in};
 ghost use Rattle.program_searches.specs.Bounds.{IsWatched, IsBoundBy};
@@ -10,11 +10,11 @@ use crate::bounds::SearchBound;
 use crate::looking::worlds_in_time;
 use crate::searches::ProgramSearch;
 use crate::watching::Watcher;
-use claims::places_looked_at;
+use claims::{places_looked_at, words_looked_at};
 use expectations::named_registers;
 use image_file::Image;
 use machine::LoadFault;
-use space_ends::space::{Bound, Exploration, Space, explore, explore_ends, explore_ends_by_sets};
+use space_ends::space::{Bound, Exploration, Observation, Space, explore, explore_ends};
 use std::alloc::{AllocError, Global};
 use std::io::Write;
 use std::time::Clock;
@@ -119,49 +119,24 @@ fn needed_worlds<'i, const S: usize, C: Clock, E: Write>(
     ensures begin { IfOk result (λ found. found.0.begin ≡ asked.now.begin.now) }
     ensures searched { IfOk result (λ found. IsSearched asked.now found.0 found.1) }
 {
-    if asked.required.claims().is_empty() {
-        return ending_worlds::<S, C, E>(alloc, image, asked, watcher);
-    }
-    claimed_worlds::<S, C, E>(alloc, image, asked, watcher)
-}
-
-/// The same, with the worlds that show whether what is claimed holds.
-fn claimed_worlds<'i, const S: usize, C: Clock, E: Write>(
-    alloc: Global,
-    image: &'i Image,
-    asked: &ProgramSearch<'_>,
-    watcher: &mut Watcher<'_, '_, C, E>,
-) -> Result<(Space<'i>, Option<SearchBound>), AllocError>
-    requires { IsFalse (takes_all asked.now) }
-    ensures image { IfOk result (λ found. found.0.image ≡ image.entry.now) }
-    ensures begin { IfOk result (λ found. found.0.begin ≡ asked.now.begin.now) }
-    ensures searched { IfOk result (λ found. IsSearched asked.now found.0 found.1) }
-{
     let most = asked.most_worlds();
     let names = named_registers(asked.required.ends());
-    let places = places_looked_at(alloc, asked.required.claims())?;
-    match explore_ends::<S, _>(alloc, image, asked.begin, &names, &places, most, watcher) {
-        Ok(exploration) => Ok(ended_by(exploration, watcher)),
-        Err(LoadFault::NoMemory | LoadFault::Streams) => Err(AllocError),
-    }
-}
-
-/// The same where nothing is claimed, of the worlds that the ends need.
-fn ending_worlds<'i, const S: usize, C: Clock, E: Write>(
-    alloc: Global,
-    image: &'i Image,
-    asked: &ProgramSearch<'_>,
-    watcher: &mut Watcher<'_, '_, C, E>,
-) -> Result<(Space<'i>, Option<SearchBound>), AllocError>
-    requires ends { IsFalse (takes_all asked.now) }
-    requires unclaimed { asked.now.required.now.claims.items ≡ [] }
-    ensures image { IfOk result (λ found. found.0.image ≡ image.entry.now) }
-    ensures begin { IfOk result (λ found. found.0.begin ≡ asked.now.begin.now) }
-    ensures searched { IfOk result (λ found. IsSearched asked.now found.0 found.1) }
-{
-    let within = asked.most_worlds();
-    let named = named_registers(asked.required.ends());
-    match explore_ends_by_sets::<S, _>(alloc, image, asked.begin, &named, within, watcher) {
+    let claims = asked.required.claims();
+    let places = places_looked_at(alloc, claims)?;
+    let words = words_looked_at(alloc, claims)?;
+    let observation = Observation {
+        places: &places,
+        words: &words,
+    };
+    match explore_ends::<S, _>(
+        alloc,
+        image,
+        asked.begin,
+        &names,
+        observation,
+        most,
+        watcher,
+    ) {
         Ok(exploration) => Ok(ended_by(exploration, watcher)),
         Err(LoadFault::NoMemory | LoadFault::Streams) => Err(AllocError),
     }

@@ -1,8 +1,9 @@
 -- What a filter of steps keeps.
-use Rattle.std.proofs.Common.{◌≡◌, zero, suc, ◌⊎◌, inl, inr, refl, sym, ap, ◌∙◌, subst, arith, eq-eqb}
+use Rattle.std.proofs.Common.{◌||◌}
+use Rattle.std.proofs.Common.{◌≡◌, zero, suc, ◌⊎◌, inl, inr, refl, sym, ap, ◌∙◌, subst, arith, eq-eqb, eqb-true}
 use Rattle.std.proofs.Common.{Bool, true, false, not, ◌&&◌, ◌==◌, List, [], ◌∷◌, filter, if◌then◌else◌}
 use Rattle.std.specs.List.{Contains}
-use Rattle.std.proofs.lemmas.Bool.{cases_Bool}
+use Rattle.std.proofs.lemmas.Bool.{cases_Bool, and_parts}
 use Rattle.std.proofs.lemmas.List.Elements.{Contains-get_or}
 use Rattle.std.proofs.lemmas.List.Folds.{list_any_at}
 use Rattle.processor.specs.declared.steps.Step.{Step}
@@ -107,3 +108,20 @@ pub out_not_in : (set steps : List Step) (t : Step) → Contains (steps_out set 
     → Contains (steps_in set steps) t → ⊥
 out_not_in set steps t out there =
     not_out set t (kept_is (is_in set) steps t there).1 (kept_is (is_out set) steps t out).1
+
+-- what is found in the set is one of it
+same_if : (t u : Step) → is_step t u ≡ true → u ≡ t
+same_if t u is =
+    let each = and_parts (u.p == t.p) (u.s == t.s) is in
+    let p : u.p ≡ t.p = eqb-true u.p t.p each.0 in
+    let s : u.s ≡ t.s = eqb-true u.s t.s each.1 in
+    λ i. record { p = p i; s = s i }
+
+in_if : (t u : Step) (us : List Step) → (is_in us t ≡ true → Contains us t) → (b : Bool) → is_step t u ≡ b
+    → (b || is_in us t) ≡ true → Contains (u ∷ us) t
+in_if t u us rest true is found = subst (Contains (u ∷ us)) (same_if t u is) (head_in u us)
+in_if t u us rest false is found = tail_in u t us (rest found)
+
+pub in_set : (set : List Step) (t : Step) → is_in set t ≡ true → Contains set t
+in_set [] t found = let off : ⊥ = cc in absurd off
+in_set (u ∷ us) t found = in_if t u us (in_set us t) (is_step t u) refl found

@@ -15,7 +15,7 @@ use Rattle.schedule_space.specs.Spaces.{count, world_of, IsComplete, IsDistinct,
 use Rattle.schedule_space.specs.Spaces.{AreAllApart, StandAlone, IsEdgeToStandIn}
 use Rattle.schedule_space.specs.Finding.{IsExpanded, NamesAll}
 use Rattle.schedule_space.specs.Followed.{AllFollowed, HasAllEnds, HasShortestEnds, TellsWhetherAllEnd}
-use Rattle.schedule_space.specs.Quiet.{AllFollowedBy}
+use Rattle.schedule_space.specs.Quiet.{AllFollowedQuietly}
 use Rattle.schedule_space.proofs.Agreeing.{agree_same}
 use Rattle.schedule_space.proofs.Alone.{followed_all}
 use Rattle.schedule_space.proofs.Breadth.{complete_from, all_edges}
@@ -29,9 +29,9 @@ AreAllExpanded e = is_complete e ≡ true → (k : ℕ) → k < count (space_in 
 abbrev pub AreAllFollowed : Exploration → Type 0
 AreAllFollowed e = is_complete e ≡ true → AllFollowed (space_in e)
 
--- by sets of steps, or by steps that are quiet, where others are left out
-abbrev pub AreAllBy : Bool → List Bool → Exploration → Type 0
-AreAllBy by_sets looked_at e = is_complete e ≡ true → AllFollowedBy by_sets looked_at (space_in e)
+-- by sets of which nobody sees one step, where others are left out
+abbrev pub AreAllQuiet : List Bool → List ℕ → Exploration → Type 0
+AreAllQuiet looked_at words e = is_complete e ≡ true → AllFollowedQuietly looked_at words (space_in e)
 
 abbrev IsLiveIn : Exploration → Type 0
 IsLiveIn e = IsLive (space_in e).image (space_in e).live
@@ -87,10 +87,10 @@ module _ {E : Type 0} where
       )
   missing_if most (Err f) full = full
 
-  pub followed_if : (by_sets : Bool) (looked_at : List Bool) (r : Result Exploration E) → IfOk r (AreAllBy by_sets looked_at)
+  pub followed_if : (looked_at : List Bool) (words : List ℕ) (r : Result Exploration E) → IfOk r (AreAllQuiet looked_at words)
       → IfOk r AreAllFollowed
-  followed_if by_sets looked_at (Ok e) all = λ on. followed_all by_sets looked_at (space_in e) (all on)
-  followed_if by_sets looked_at (Err f) all = all
+  followed_if looked_at words (Ok e) all = λ on. followed_all looked_at words (space_in e) (all on)
+  followed_if looked_at words (Err f) all = all
 
   pub alone_in : (names : List Bool) (r : Result Exploration E)
       → ((n : ℕ) → n < 32 → IsTrue (is_named_by names n)) → IfOk r (λ e. (space_in e).live.names ≡ names)

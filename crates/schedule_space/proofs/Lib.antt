@@ -1,3 +1,4 @@
+pub mod Looking
 pub mod Schedules
 pub mod Memories
 pub mod Resting
@@ -30,6 +31,7 @@ pub mod Following
 pub mod Explored
 pub mod FreeSteps
 pub mod QuietSteps
+pub mod UnseenSets
 -- Of crates below, passed on to callers.
 pub mod AgreeingEnds
 pub mod DeadRegisters

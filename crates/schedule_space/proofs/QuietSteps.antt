@@ -35,7 +35,7 @@ not_both true = refl
 not_both false = refl
 
 -- it is not seen at a place that is not looked at
-unseen : (looked_at : List Bool) (s : StreamValue) → is_looked_at looked_at s.ssw.pc ≡ false → is_seen looked_at s ≡ false
+pub unseen : (looked_at : List Bool) (s : StreamValue) → is_looked_at looked_at s.ssw.pc ≡ false → is_seen looked_at s ≡ false
 unseen looked_at s none = ap (λ b. is_running s && b) none ∙ not_both (is_running s)
 
 -- where no place is looked at, each step is quiet

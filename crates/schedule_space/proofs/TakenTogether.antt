@@ -1,9 +1,9 @@
 -- Steps of a set that are taken together, and all where they do not lead on.
-use Rattle.std.proofs.Common.{◌≡◌, ℕ, ◌<◌, inl, inr, sym, subst, arith, List}
+use Rattle.std.proofs.Common.{◌≡◌, ℕ, ◌<◌, ◌⊎◌, inl, inr, refl, sym, subst, arith, List, Bool, true, false, ◌||◌, ◌&&◌}
 use Rattle.std.specs.Prelude.{Result, Ok, Err, OnOk, IsTrue}
 use Rattle.std.specs.List.{Contains}
 use Rattle.machine.specs.MachineValue.{MachineValue}
-use Rattle.processor.specs.World.{World}
+use Rattle.processor.specs.World.{World, steps}
 use Rattle.processor.specs.declared.steps.Step.{Step}
 use Rattle.image_file.specs.ImageValue.{ImageValue}
 use Rattle.waiting.specs.Running.{runs_in}
@@ -13,11 +13,13 @@ use Rattle.first_sets.specs.ApartSets.{IsApartSet}
 use Rattle.first_sets.proofs.Apart.{first_apart}
 use Rattle.first_sets.proofs.Resting as rest
 use Rattle.schedule_space.specs.Spaces.{SpaceValue, count, schedule_of, world_of, machine_after}
-use Rattle.schedule_space.specs.Finding.{IsGrown, IsTaken, HasRunning}
-use Rattle.schedule_space.specs.Followed.{IsTakenTogether, IsFollowed}
+use Rattle.schedule_space.specs.Finding.{IsGrown, IsTaken, IsTakenTo, IsExpanded, HasRunning}
+use Rattle.schedule_space.specs.Followed.{IsTakenTogether}
+use Rattle.schedule_space.specs.Quiet.{IsUnseen, IsUnseenStep, IsTakenQuietly, IsFollowedQuietly, IsSomeTakenLater}
 use Rattle.schedule_space.specs.Chosen.{is_in, steps_in, steps_out}
-use Rattle.schedule_space.proofs.Chosen.{is_kept, found_in, in_or_out}
-use Rattle.schedule_space.proofs.Growing.{world_grown, taken_grown}
+use Rattle.schedule_space.proofs.Chosen.{is_kept, kept_is, found_in, in_or_out, in_set}
+use Rattle.schedule_space.proofs.Growing.{world_grown, taken_grown, taken_still}
+use Rattle.schedule_space.proofs.UnseenSets.{unseen_after}
 use Rattle.schedule_space.proofs.Taking.{AreAllTaken, IsTakenOrWaits, all_taken, machine_grown}
 
 -- a step of a set that is apart is one of a stream that runs
@@ -35,9 +37,9 @@ module _ (v w : SpaceValue) (from : ℕ) (g : IsGrown v w) (below : from < count
   then_taken t waited (inr there) = waited there
 
   -- where the others are taken, each step is
-  pub all_by_others : AreAllTaken w from others → IsFollowed w from
+  pub all_by_others : AreAllTaken w from others → IsExpanded w from
   all_by_others all =
-      inl (all_taken w from running (omega (arith, below, g.more))
+      (all_taken w from running (omega (arith, below, g.more))
       (subst (λ (x : World). HasRunning x running) (sym (world_grown v w from g below)) runs)
       (λ t there. then_taken t (all t) (waits t there)))
 
@@ -59,6 +61,29 @@ module _ (v w : SpaceValue) (from : ℕ) (g : IsGrown v w) (below : from < count
             (waits t (runs t on));
       }
 
+  -- if one of them that nobody sees leads to a later place, they are taken quietly
+  pub quietly : (m : MachineValue) (tables : List TouchValue) (set : List Step)
+      → (is : m ≡ machine_after v.image (schedule_of v from)) → (apart : IsApartSet m.image tables m.world set)
+      → AreAllTaken w from (steps_in set others) → (looked_at : List Bool) (words : List ℕ) (unseen : List Step)
+      → ((t : Step) → Contains unseen t → Contains (steps_in set others) t)
+      → ((t : Step) → Contains unseen t → IsUnseen looked_at words m.image m.world t)
+      → IsSomeTakenLater w from unseen → IsTakenQuietly looked_at words w from
+  unfolding by_set
+  quietly m tables set is apart taken looked_at words unseen among none one =
+      let at = machine_grown v w from m g below is in
+      let inside : Contains set one.step =
+      in_set set one.step (kept_is (is_in set) others one.step (among one.step one.there)).1 in
+      record {
+        together = by_set m tables set is apart taken;
+        step = one.step;
+        there = inside;
+        taken = one.taken;
+        later = one.later;
+        unseen = λ us out.
+            subst (λ (x : MachineValue). IsUnseenStep looked_at words x.image (steps x.image x.world us) one.step) at
+            (unseen_after m.image tables m.world set apart one.step inside looked_at words (none one.step one.there) us out);
+      }
+
 -- where those of a set are taken first, and then the rest, all are
 pub all_in_two : (u w : SpaceValue) (from : ℕ) (set others : List Step) → IsGrown u w → from < count u
     → AreAllTaken u from (steps_in set others) → AreAllTaken w from (steps_out set others) → AreAllTaken w from others
@@ -68,7 +93,41 @@ all_in_two u w from set others g below first rest_taken t there = elim (in_or_ou
 ]
 
 -- so it is of a result
-pub followed_on : {E : Type 0} (r : Result Unit E) (w : SpaceValue) (from : ℕ) (others : List Step)
-    → (AreAllTaken w from others → IsFollowed w from) → OnOk r (AreAllTaken w from others) → OnOk r (IsFollowed w from)
-followed_on (Ok a) w from others by all = by all
-followed_on (Err e) w from others by all = all
+pub followed_on : {E : Type 0} (r : Result Unit E) (looked_at : List Bool) (words : List ℕ) (w : SpaceValue) (from : ℕ)
+    (others : List Step) → (AreAllTaken w from others → IsExpanded w from) → OnOk r (AreAllTaken w from others)
+    → OnOk r (IsFollowedQuietly looked_at words w from)
+followed_on (Ok a) looked_at words w from others by all = inl (by all)
+followed_on (Err e) looked_at words w from others by all = all
+
+-- One of these steps is taken, and leads to a later place.
+
+pub some_later_grown : (v w : SpaceValue) (from : ℕ) (ts : List Step) → IsGrown v w → from < count v
+    → IsSomeTakenLater v from ts → IsSomeTakenLater w from ts
+some_later_grown v w from ts g below one =
+    let e = taken_still v w from one.step g below one.taken in
+    record {
+      step = one.step;
+      there = one.there;
+      taken = e.0;
+      later = let same = e.1 in let later = one.later in omega (arith, same, later);
+    }
+
+pub some_later : (v : SpaceValue) (from to : ℕ) (ts : List Step) (t : Step) → IsTakenTo v from t to → from < to
+    → is_in ts t ≡ true → IsSomeTakenLater v from ts
+some_later v from to ts t taken later inside = record {
+  step = t;
+  there = in_set ts t inside;
+  taken = taken.0;
+  later = let same = taken.1 in omega (arith, same, later);
+}
+
+-- so it stays where another step is taken, whether that one is such a step or not
+pub some_later_next : (v w : SpaceValue) (from to : ℕ) (ts : List Step) (t : Step) (was on inside : Bool) → IsGrown v w
+    → from < count v → (was ≡ true → IsSomeTakenLater v from ts) → IsTakenTo w from t to → (on ≡ true → from < to)
+    → (inside ≡ true → is_in ts t ≡ true) → (was || (on && inside)) ≡ true → IsSomeTakenLater w from ts
+some_later_next v w from to ts t true on inside g below before taken later has is =
+    some_later_grown v w from ts g below (before refl)
+some_later_next v w from to ts t false true true g below before taken later has is =
+    some_later w from to ts t taken (later refl) (has refl)
+some_later_next v w from to ts t false true false g below before taken later has is = let off : ⊥ = cc in absurd off
+some_later_next v w from to ts t false false inside g below before taken later has is = let off : ⊥ = cc in absurd off

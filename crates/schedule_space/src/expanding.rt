@@ -8,7 +8,7 @@ ghost use Rattle.schedule_space.specs.Spaces.{world_of, AreAllDifferent};
 ghost use Rattle.schedule_space.specs.Kept.{AreKept, AreKeptAt};
 ghost use Rattle.schedule_space.specs.Finding.{IsGrown, IsTaken, IsTakenTo, IsExpanded, IsExpanding, HasRunning};
 ghost use Rattle.schedule_space.specs.Finding.{HasNoEdge, HaveNoEdges, IsFullAt};
-ghost use Rattle.schedule_space.specs.Quiet.{IsTakenQuietly, IsFollowedBy};
+ghost use Rattle.schedule_space.specs.Quiet.{IsTakenQuietly, IsFollowedQuietly, IsSomeTakenLater};
 ghost use Rattle.tag_memory.specs.Unforwarded.{IsUnforwarded};
 ghost use Rattle.touched_words.specs.ClosedTables.{IsClosedTable};
 ghost use Rattle.first_sets.specs.ApartSets.{table_at};
@@ -16,7 +16,9 @@ ghost use Rattle.first_sets.specs.ApartSets.{table_at};
 use crate::finding::{Found, Stop};
 use crate::kept_machines::KeptMachines;
 use crate::links::{Edge, Link};
+use crate::observations::Observation;
 use crate::quiet::is_quiet_step;
+use crate::together::is_in;
 use agreeing_ends::local::is_free_step;
 use processor::Step;
 use touched_words::TouchTable;
@@ -35,9 +37,9 @@ pub(crate) enum Wanted {
 pub(crate) struct Shortcuts<'a> {
     /// The places from which no stream comes to a RESERVE or CREATE.
     pub(crate) settled: &'a [bool],
-    /// The places that its caller looks at.
-    pub(crate) looked_at: &'a [bool],
-    /// Whether it takes sets of steps, where nobody looks on.
+    /// What its caller looks at.
+    pub(crate) observation: Observation<'a>,
+    /// Whether it takes sets of steps: where no word may forward.
     pub(crate) by_sets: bool,
     /// By processor what its streams may still ask for, where it does.
     pub(crate) tables: &'a [TouchTable],
@@ -67,7 +69,7 @@ impl<'i> Found<'i> {
         ensures expanding { IsExpanding self.new from most }
         ensures full { result ≡ Err Stop.Full → IsFullAt self.new from most }
         ensures machines { OnOk result (AreKept self.new machines.new) }
-        ensures followed { OnOk result (IsFollowedBy shortcuts.entry.by_sets shortcuts.entry.looked_at.now self.new from) }
+        ensures quiet { OnOk result (IsFollowedQuietly shortcuts.entry.observation.places.now shortcuts.entry.observation.words.now self.new from) }
         ensures expanded { wanted ≡ Wanted.Worlds → OnOk result (IsExpanded self.new from) }
     {
         machines.go_to(from);
@@ -102,7 +104,7 @@ impl<'i> Found<'i> {
         ensures expanding { IsExpanding self.new from most }
         ensures full { result ≡ Err Stop.Full → IsFullAt self.new from most }
         ensures machines { OnOk result (AreKeptAt self.new machines.new from) }
-        ensures followed { OnOk result (IsFollowedBy shortcuts.entry.by_sets shortcuts.entry.looked_at.now self.new from) }
+        ensures quiet { OnOk result (IsFollowedQuietly shortcuts.entry.observation.places.now shortcuts.entry.observation.words.now self.new from) }
     {
         let mut others = Vec::new(self.alloc);
         for step in running {
@@ -113,8 +115,7 @@ impl<'i> Found<'i> {
             }
         }
         if shortcuts.by_sets {
-            let tables = shortcuts.tables;
-            return self.take_set_or_all(machines, from, running, &others, tables, most);
+            return self.take_set_or_all(machines, from, running, &others, shortcuts, most);
         }
         self.take_all(machines, from, &others, most)
     }
@@ -138,7 +139,7 @@ impl<'i> Found<'i> {
         ensures expanding { IsExpanding self.new link.from most }
         ensures full { result ≡ Err Stop.Full → IsFullAt self.new link.from most }
         ensures machines { OnOk result (AreKeptAt self.new machines.new link.from) }
-        ensures alone { IfOk result (λ b. b ≡ true → IsTakenQuietly shortcuts.entry.looked_at.now self.new link.from) }
+        ensures alone { IfOk result (λ b. b ≡ true → IsTakenQuietly shortcuts.entry.observation.places.now shortcuts.entry.observation.words.now self.new link.from) }
         ensures left { IfOk result (λ b. b ≡ false
             → IsTaken self.new link.from link.step ⊎ Contains others.new.items link.step) }
         ensures others { (t : Step) → Contains others.old.items t → Contains others.new.items t }
@@ -149,7 +150,7 @@ impl<'i> Found<'i> {
         self.make_here(machines, link.from)?;
         let here = machines.here().unwrap();
         if !is_free_step(here, step, shortcuts.settled)
-            || !is_quiet_step(here, step, shortcuts.looked_at)
+            || !is_quiet_step(here, step, shortcuts.observation.places)
         {
             others.push(step)?;
             return Ok(false);
@@ -176,17 +177,18 @@ impl<'i> Found<'i> {
         ensures machines { OnOk result (AreKeptAt self.new machines.new from) }
         ensures taken { OnOk result ((t : Step) → Contains steps.now t → IsTaken self.new from t) }
     {
-        self.take_each(machines, from, steps, true, most)?;
+        self.take_each(machines, from, steps, &[], true, most)?;
         Ok(())
     }
 
-    /// Takes each of these steps, and says whether one leads to a later place. The last one may take the machine of the place
-    /// itself, where it is let go.
+    /// Takes each of these steps, and says whether one that is unseen leads to a later place. The last one may take the machine
+    /// of the place itself, where it is let go.
     pub(crate) fn take_each<const S: usize>(
         &mut self,
         machines: &mut KeptMachines<'i, S>,
         from: u32,
         steps: &[Step],
+        unseen: &[Step],
         is_let_go: bool,
         most: u32,
     ) -> Result<bool, Stop>
@@ -201,6 +203,7 @@ impl<'i> Found<'i> {
         ensures taken { OnOk result ((t : Step) → Contains steps.now t → IsTaken self.new from t) }
         ensures edges { OnOk result ((t : Step) → ¬ (Contains steps.now t) → HasNoEdge self.old from t
             → HasNoEdge self.new from t) }
+        ensures later { IfOk result (λ b. b ≡ true → IsSomeTakenLater self.new from unseen.now) }
     {
         let mut is_later = false;
         for place in 0..steps.len() {
@@ -210,7 +213,7 @@ impl<'i> Found<'i> {
             };
             let is_last = is_let_go && place + 1 == steps.len();
             let to = self.take(machines, link, is_last, most)?;
-            is_later = is_later || to > from;
+            is_later = is_later || to > from && is_in(unseen, link.step);
         }
         Ok(is_later)
     }

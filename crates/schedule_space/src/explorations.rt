@@ -1,16 +1,16 @@
 //! The search for all worlds of an image.
 
-ghost use Rattle.std.specs.Prelude.{◌≡◌, ◌<◌, ◌≤◌, ◌↔◌, ℕ, true, Some, IsTrue, IsFalse, IfOk, Contains, List};
+ghost use Rattle.std.specs.Prelude.{◌≡◌, ◌<◌, ◌≤◌, ◌↔◌, ℕ, true, List, Some, IsTrue, IsFalse, IfOk, Contains};
+ghost use Rattle.tag_memory.specs.Unforwarded.{IsUnforwarded};
+ghost use Rattle.processor.specs.World.{run};
+ghost use Rattle.processor.specs.declared.steps.Step.{Step};
 ghost use Rattle.schedule_space.specs.declared.links.Edge.{Edge};
 ghost use Rattle.world_keys.specs.DeadRegisters.Clearing.{IsLive};
 ghost use Rattle.schedule_space.specs.Spaces.{count, IsComplete, IsDistinct, IsShortest, HasAllEdges};
 ghost use Rattle.schedule_space.specs.Spaces.{AreAllApart, StandAlone, ShortestFirst, AreAllDifferent, IsEdgeToStandIn};
 ghost use Rattle.schedule_space.specs.Finding.{IsExpanded, NamesAll};
 ghost use Rattle.schedule_space.specs.Followed.{AllFollowed, HasAllEnds, HasShortestEnds, TellsWhetherAllEnd};
-ghost use Rattle.schedule_space.specs.Quiet.{AllFollowedQuietly, AllFollowedBy};
-ghost use Rattle.processor.specs.World.{run};
-ghost use Rattle.processor.specs.declared.steps.Step.{Step};
-ghost use Rattle.tag_memory.specs.Unforwarded.{IsUnforwarded};
+ghost use Rattle.schedule_space.specs.Quiet.{AllFollowedQuietly};
 ghost use Rattle.touched_words.specs.ClosedTables.{IsClosedTable};
 ghost use Rattle.first_sets.specs.ApartSets.{table_at};
 ghost use Rattle.schedule_space.specs.Answers.{space_in, is_complete, bound_in, most_places, IsFull};
@@ -18,10 +18,11 @@ ghost use Rattle.schedule_space.specs.Answers.{space_in, is_complete, bound_in, 
 use crate::expanding::{Shortcuts, Wanted};
 use crate::finding::{Found, Stop};
 use crate::kept_machines::KeptMachines;
+use crate::observations::Observation;
 use crate::spaces::Space;
 use crate::watches::{Bound, Watch};
 use agreeing_ends::local::settled_places;
-use first_sets::touch_tables;
+use first_sets::{may_forward, touch_tables};
 use image_file::Image;
 use machine::{LoadFault, Machine};
 use processor::{Processor, Step};
@@ -83,8 +84,7 @@ pub fn explore<'i, const S: usize, W: Watch>(
         begin,
         &[true; 32],
         Wanted::Worlds,
-        &[],
-        false,
+        Observation::NOTHING,
         most,
         watch,
     )
@@ -94,15 +94,16 @@ pub fn explore<'i, const S: usize, W: Watch>(
 /// in the same way, but of fewer worlds: where a step concerns its own stream alone, or ends it where no other stream
 /// of its processor may come to a RESERVE or CREATE, and leads to a later place, only that one is taken, and one world
 /// stands for all that differ from it in registers alone that nobody reads again, and in condition codes that nobody
-/// asks for again. Registers in `names` matter at each place, r0 to r31. A step is taken alone only where its stream
-/// stands at none of the places in `looked_at`, neither before it nor after it: so who looks at these alone misses
-/// nothing. Where the search is complete, some world stands for each end, by a schedule that is as short as any.
+/// asks for again. Registers in `names` matter at each place, r0 to r31. So are the steps of a set that can be taken before
+/// all others, since no other stream ever comes to one of their words. One of these has to be such that nobody sees it who
+/// looks at the places and words of `observation` alone, and leads to a later place: so who looks at these misses nothing.
+/// Where the search is complete, some world stands for each end, by a schedule that is as short as any.
 pub fn explore_ends<'i, const S: usize, W: Watch>(
     alloc: Global,
     image: &'i Image,
     begin: &[Step],
     names: &Row,
-    looked_at: &[bool],
+    observation: Observation<'_>,
     most: usize,
     watch: &mut W,
 ) -> Result<Exploration<'i>, LoadFault>
@@ -111,7 +112,7 @@ pub fn explore_ends<'i, const S: usize, W: Watch>(
     ensures begin { IfOk result (λ e. (space_in e).begin ≡ begin.now) }
     ensures names { IfOk result (λ e. (space_in e).live.names ≡ names.now) }
     ensures live { IfOk result (λ e. IsLive (space_in e).image (space_in e).live) }
-    ensures quiet { IfOk result (λ e. is_complete e ≡ true → AllFollowedQuietly looked_at.now (space_in e)) }
+    ensures quiet { IfOk result (λ e. is_complete e ≡ true → AllFollowedQuietly observation.entry.places.now observation.entry.words.now (space_in e)) }
     ensures ends { IfOk result (λ e. is_complete e ≡ true → HasAllEnds (space_in e)) }
     ensures followed { IfOk result (λ e. is_complete e ≡ true → AllFollowed (space_in e)) }
     ensures tells { IfOk result (λ e. is_complete e ≡ true → TellsWhetherAllEnd (space_in e)) }
@@ -130,32 +131,30 @@ pub fn explore_ends<'i, const S: usize, W: Watch>(
         begin,
         names,
         Wanted::Ends,
-        looked_at,
-        false,
+        observation,
         most,
         watch,
     )
 }
 
 /// Looks for what is wanted; one world stands for all that differ from it in registers and codes alone that do not matter.
-pub(crate) fn search<'i, const S: usize, W: Watch>(
+fn search<'i, const S: usize, W: Watch>(
     alloc: Global,
     image: &'i Image,
     begin: &[Step],
     names: &Row,
     wanted: Wanted,
-    looked_at: &[bool],
-    by_sets: bool,
+    observation: Observation<'_>,
     most: usize,
     watch: &mut W,
 ) -> Result<Exploration<'i>, LoadFault>
-    requires most { 1 ≤ most }
-    requires unforwarded { by_sets ≡ true → (ts : List Step) → IsUnforwarded (run image.now ts).memory }
+    requires { 1 ≤ most }
     ensures image { IfOk result (λ e. (space_in e).image ≡ image.entry.now) }
     ensures begin { IfOk result (λ e. (space_in e).begin ≡ begin.now) }
     ensures expanded { IfOk result (λ e. wanted ≡ Wanted.Worlds → is_complete e ≡ true
         → (k : ℕ) → k < count (space_in e) → IsExpanded (space_in e) k) }
-    ensures followed { IfOk result (λ e. is_complete e ≡ true → AllFollowedBy by_sets looked_at.now (space_in e)) }
+    ensures quiet { IfOk result (λ e. is_complete e ≡ true
+        → AllFollowedQuietly observation.entry.places.now observation.entry.words.now (space_in e)) }
     ensures names { IfOk result (λ e. (space_in e).live.names ≡ names.now) }
     ensures live { IfOk result (λ e. IsLive (space_in e).image (space_in e).live) }
     ensures edges { IfOk result (λ e. (d : Edge) → Contains (space_in e).edges d → IsEdgeToStandIn (space_in e) d) }
@@ -173,10 +172,11 @@ pub(crate) fn search<'i, const S: usize, W: Watch>(
     first.run(begin);
     let live = LiveRegisters::of(alloc, image, names)?;
     let settled = settled_places(alloc, image)?;
+    let by_sets = takes_sets(image, wanted);
     let tables = tables_if(alloc, image, by_sets)?;
     let shortcuts = Shortcuts {
         settled: &settled,
-        looked_at,
+        observation,
         by_sets,
         tables: &tables,
     };
@@ -197,6 +197,16 @@ pub(crate) fn search<'i, const S: usize, W: Watch>(
         }
     }
     Ok(Exploration::Complete(found.into_space()))
+}
+
+/// Whether a search takes sets of steps: where it looks for ends, and no word may forward.
+fn takes_sets(image: &Image, wanted: Wanted) -> bool
+    ensures { IsTrue result → (ts : List Step) → IsUnforwarded (run image.now ts).memory }
+{
+    match wanted {
+        Wanted::Worlds => false,
+        Wanted::Ends => !may_forward(image),
+    }
 }
 
 /// For each processor of an image what its streams may still ask for, where that is wanted; else no table.

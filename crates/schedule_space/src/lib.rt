@@ -1,7 +1,6 @@
 //! The worlds that every schedule of an image leads to (docs/MACHINE.md, "Schedules").
 #![tactic(auto)]
 
-mod by_sets;
 mod expanding;
 mod explorations;
 mod fates;
@@ -13,18 +12,20 @@ mod links;
 mod machines;
 mod marks;
 mod next_worlds;
+mod observations;
 mod quiet;
 mod reaching;
 mod routes;
 mod spaces;
 mod stepping;
 mod together;
+mod unseen;
 mod watches;
 
-pub use by_sets::explore_ends_by_sets;
 pub use explorations::{Exploration, explore, explore_ends};
 pub use fates::Fate;
 pub use links::{Edge, Link};
 pub use machines::machine_at;
+pub use observations::Observation;
 pub use spaces::Space;
 pub use watches::{Bound, Watch};

@@ -50,7 +50,7 @@ fn leads_there(image: &Image, stream: &Stream, looked_at: &[bool]) -> bool
 }
 
 /// Whether a place is looked at.
-fn is_looked_at(looked_at: &[bool], place: u32) -> bool
+pub(crate) fn is_looked_at(looked_at: &[bool], place: u32) -> bool
     ensures { result ≡ is_looked_at looked_at.now place }
 {
     match looked_at.get(place as usize) {

@@ -9,19 +9,20 @@ ghost use Rattle.first_sets.specs.ApartSets.{table_at};
 ghost use Rattle.schedule_space.specs.Spaces.{world_of, AreAllDifferent};
 ghost use Rattle.schedule_space.specs.Kept.{AreKeptAt};
 ghost use Rattle.schedule_space.specs.Finding.{IsGrown, IsTaken, IsExpanding, HasRunning, HaveNoEdges, IsFullAt};
-ghost use Rattle.schedule_space.specs.Followed.{IsFollowed};
+ghost use Rattle.schedule_space.specs.Quiet.{IsFollowedQuietly};
 ghost use Rattle.schedule_space.specs.Chosen.{is_step, is_in, is_out, steps_in, steps_out};
 
+use crate::expanding::Shortcuts;
 use crate::finding::{Found, Stop};
 use crate::kept_machines::KeptMachines;
+use crate::unseen::unseen_steps;
 use first_sets::apart_set;
 use processor::Step;
 use std::alloc::{AllocError, Global};
-use touched_words::TouchTable;
 
 impl<'i> Found<'i> {
     /// Takes, of the steps of `others`, those of a set that can be taken before all others, where one is found by the tables
-    /// and one of these steps leads to a later place; else all. `running` has the steps of all streams that run; those that
+    /// and one of these steps is unseen and leads to a later place; else all. `running` has the steps of all streams that run; those that
     /// are not among `others` have been taken.
     pub(crate) fn take_set_or_all<const S: usize>(
         &mut self,
@@ -29,7 +30,7 @@ impl<'i> Found<'i> {
         from: u32,
         running: &[Step],
         others: &[Step],
-        tables: &[TouchTable],
+        shortcuts: Shortcuts<'_>,
         most: u32,
     ) -> Result<(), Stop>
         requires expanding { IsExpanding self.old from most }
@@ -38,21 +39,22 @@ impl<'i> Found<'i> {
         requires new { HaveNoEdges self.old from others.now }
         requires running { HasRunning (world_of self.old from) running.now }
         requires waits { (t : Step) → Contains running.now t → IsTaken self.old from t ⊎ Contains others.now t }
-        requires closed { (p : ℕ) → IsClosedTable self.old.image.profile self.old.image.program (table_at tables.now p) }
+        requires closed { (p : ℕ) → IsClosedTable self.old.image.profile self.old.image.program (table_at shortcuts.tables.now p) }
         requires unforwarded { IsUnforwarded (world_of self.old from).memory }
         ensures grown { IsGrown self.old self.new }
         ensures expanding { IsExpanding self.new from most }
         ensures full { result ≡ Err Stop.Full → IsFullAt self.new from most }
         ensures machines { OnOk result (AreKeptAt self.new machines.new from) }
-        ensures followed { OnOk result (IsFollowed self.new from) }
+        ensures quiet { OnOk result (IsFollowedQuietly shortcuts.entry.observation.places.now shortcuts.entry.observation.words.now self.new from) }
     {
         self.make_here(machines, from)?;
         let here = machines.here().unwrap();
-        let Some(set) = apart_set(self.alloc, here, tables, running)? else {
+        let Some(set) = apart_set(self.alloc, here, shortcuts.tables, running)? else {
             return self.take_all(machines, from, others, most);
         };
         let first = steps_in(self.alloc, &set, others)?;
-        let is_later = self.take_each(machines, from, &first, false, most)?;
+        let unseen = unseen_steps(self.alloc, here, &first, shortcuts.observation)?;
+        let is_later = self.take_each(machines, from, &first, &unseen, false, most)?;
         if is_later {
             return Ok(());
         }
@@ -92,7 +94,7 @@ fn steps_out(alloc: Global, set: &[Step], steps: &[Step]) -> Result<Vec<Step>, A
 }
 
 /// Whether a step is one of a set.
-fn is_in(set: &[Step], step: Step) -> bool
+pub(crate) fn is_in(set: &[Step], step: Step) -> bool
     ensures { result ≡ is_in set.now step }
 {
     set.iter().any(

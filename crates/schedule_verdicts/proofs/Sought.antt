@@ -1,5 +1,5 @@
 -- Where no world of a space shows a claim, and these show whether claims hold, no schedule does: the opposite holds of each.
-use Rattle.std.proofs.Common.{◌≡◌, ℕ, zero, suc, ◌<◌, inl, inr, refl, sym, subst, ap, ◌∙◌, ◌++◌}
+use Rattle.std.proofs.Common.{◌≡◌, ℕ, zero, suc, ◌<◌, inl, inr, refl, sym, ap, ◌∙◌, ◌++◌}
 use Rattle.std.proofs.Common.{Bool, true, false, List, [], ◌∷◌, ◌&&◌, ◌||◌, Some, slice_get}
 use Rattle.std.specs.Prelude.{IsTrue}
 use Rattle.std.proofs.lemmas.Bool.{or_left, or_right}
@@ -8,13 +8,13 @@ use Rattle.processor.specs.World.{World, run}
 use Rattle.processor.specs.declared.steps.Step.{Step}
 use Rattle.busy_streams.specs.DeadRegisters.Clearing.{IsLive}
 use Rattle.claims.specs.Holding.{form_holds, holds_by, shown_by, shows}
-use Rattle.claims.specs.Looking.{form_looks_at, is_looked_at}
+use Rattle.claims.specs.Looking.{form_looks_at, is_looked_at, form_looks_at_word, is_word_looked_at}
 use Rattle.claims.specs.declared.claim.Claim.{Claim}
 use Rattle.claims.specs.declared.claim.Scope.{Scope}
 use Rattle.claims.specs.declared.claim.Scope.TheVariants.{Always, Never, Once}
 use Rattle.busy_streams.specs.ScheduleSpace.Spaces.{SpaceValue, count, world_of, IsComplete}
 use Rattle.schedule_verdicts.specs.KeptClaims.{AreKept}
-use Rattle.schedule_verdicts.specs.RightSpaces.{IsQuietForClaims, IsFollowedForClaims}
+use Rattle.schedule_verdicts.specs.RightSpaces.{IsFollowedForClaims}
 use Rattle.schedule_verdicts.specs.ShownClaims.{IsShown, IsUnshownIn, TellsOfClaims}
 use Rattle.schedule_verdicts.proofs.Shown.{claims_hold}
 
@@ -47,19 +47,26 @@ member (d ∷ ds) zero c place there is =
 member (d ∷ ds) (suc k) c place there is =
     or_right (form_looks_at place d.form) (is_looked_at ds place) (member ds k c place there is)
 
+word_member : (claims : List Claim) (k : ℕ) (c : Claim) (a : ℕ) → slice_get claims k ≡ Some c
+    → IsTrue (form_looks_at_word a c.form) → IsTrue (is_word_looked_at claims a)
+word_member [] k c a there is = let h : ⊥ = cc in absurd h
+word_member (d ∷ ds) zero c a there is =
+    or_left (form_looks_at_word a d.form) (is_word_looked_at ds a)
+    (ap (λ (x : Claim). form_looks_at_word a x.form) (same_Some d c there) ∙ is)
+word_member (d ∷ ds) (suc k) c a there is =
+    or_right (form_looks_at_word a d.form) (is_word_looked_at ds a) (word_member ds k c a there is)
+
 alone : (b : Bool) → (b || false) ≡ true → b ≡ true
 alone true is = refl
 alone false is = is
 
 followed_for_one : (v : SpaceValue) (claims : List Claim) (k : ℕ) (c : Claim) → slice_get claims k ≡ Some c
-    → IsFollowedForClaims v claims → IsQuietForClaims v (never c ∷ [])
-followed_for_one v claims k c there (inl none) =
-    let e : slice_get [] k ≡ Some c = subst (λ (cs : List Claim). slice_get cs k ≡ Some c) none.0 there in
-    let h : ⊥ = cc in
-    absurd h
-followed_for_one v claims k c there (inr all) = record {
+    → IsFollowedForClaims v claims → IsFollowedForClaims v (never c ∷ [])
+followed_for_one v claims k c there all = record {
   looked_at = all.looked_at;
+  words = all.words;
   covers = λ place is. all.covers place (member claims k c place there (alone (form_looks_at place c.form) is));
+  covers_words = λ a is. all.covers_words a (word_member claims k c a there (alone (form_looks_at_word a c.form) is));
   quiet = all.quiet;
 }
 
@@ -77,7 +84,7 @@ module _ (v : SpaceValue) (c : Claim) (none : IsUnshownIn v c) where
   kept : AreKept v (never c ∷ [])
   kept k below = opposite c.scope (form_holds (world_of v k) c.form) (none.worlds k below)
 
-  unshown_if_followed : IsLive v.image v.live → IsQuietForClaims v (never c ∷ []) → 0 < count v → (ts : List Step)
+  unshown_if_followed : IsLive v.image v.live → IsFollowedForClaims v (never c ∷ []) → 0 < count v → (ts : List Step)
       → ShownAfter ts → ⊥
   unshown_if_followed live followed some ts shown =
       clash c.scope (form_holds (world_of v 0) c.form) (form_holds (run v.image (v.begin ++ ts)) c.form)

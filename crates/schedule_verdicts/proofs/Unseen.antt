@@ -1,10 +1,10 @@
--- A quiet step that can be taken before all others changes no claim, where claims look at no other places.
-use Rattle.std.proofs.Common.{◌≡◌, ◌≢◌, ℕ, zero, suc, ◌+◌, cond, ◌⊎◌, inl, inr, Bool, true, false, refl, sym, ap, ◌∙◌}
+-- A step that nobody sees who looks at some places and words changes no claim, where claims look at no others.
+use Rattle.std.proofs.Common.{◌≡◌, ◌≢◌, ℕ, zero, suc, ◌+◌, cond, ◌⊎◌, inl, inr, Bool, true, false, refl, sym, ap, ◌∙◌, eq-eqb}
 use Rattle.std.proofs.Common.{List, [], ◌∷◌, Option, Some, None, slice_get, ◌&&◌}
 use Rattle.std.specs.Prelude.{IsTrue, nat_le, slice_index_or}
+use Rattle.std.specs.List.{Contains}
 use Rattle.std.proofs.lemmas.Bool.{or_left, or_right}
 use Rattle.std.proofs.lemmas.List.Sums.{sum_by-cons}
-use Rattle.tag_memory.specs.Storage.{cell_at}
 use Rattle.image_file.specs.ImageValue.{ImageValue}
 use Rattle.stream_core.specs.Streams.{StreamValue}
 use Rattle.processor.specs.Processors.{ProcessorValue}
@@ -14,13 +14,11 @@ use Rattle.processor.specs.World.{World, after}
 use Rattle.processor.specs.declared.steps.Step.{Step}
 use Rattle.busy_streams.proofs.AgreeingEnds.Moving.{same_step}
 use Rattle.claims.specs.Holding.{runs_at_places, count_at_places, stream_at, word_holds, form_holds, holds_by}
-use Rattle.claims.specs.Looking.{form_looks_at, is_looked_at}
+use Rattle.claims.specs.Looking.{form_looks_at, is_looked_at, form_looks_at_word, is_word_looked_at}
 use Rattle.claims.specs.declared.claim.Claim.{Claim}
 use Rattle.claims.specs.declared.claim.ClaimForm.{ClaimForm}
 use Rattle.claims.specs.declared.claim.ClaimForm.TheVariants as form
-use Rattle.busy_streams.specs.ScheduleSpace.Quiet.{is_seen, stream_of_step}
-use Rattle.busy_streams.proofs.ScheduleSpace.FreeSteps.{free_memory, free_others}
-use Rattle.busy_streams.proofs.ScheduleSpace.QuietSteps.{IsFreeQuiet}
+use Rattle.busy_streams.specs.ScheduleSpace.Quiet.{is_seen, stream_of_step, IsUnseenStep}
 use Rattle.schedule_verdicts.specs.KeptClaims.{all_hold}
 
 -- whether a stream runs at places of a range
@@ -49,7 +47,8 @@ not_in_range false within looked covers none = refl
 not_in_range true false looked covers none = refl
 not_in_range true true looked covers none = let e : true ≡ false = sym (covers refl) ∙ none in absurd cc
 
-module _ (looked_at : List Bool) (image : ImageValue) (w : World) (t : Step) (free : IsFreeQuiet looked_at image w t) where
+module _ (looked_at : List Bool) (words : List ℕ) (image : ImageValue) (w : World) (t : Step)
+    (free : IsUnseenStep looked_at words image w t) where
   -- it runs at no place of a range that is looked at
   not_there : (first last : ℕ) (v : World)
       → ((place : ℕ) → IsTrue (nat_le first place && nat_le place last) → IsTrue (slice_index_or looked_at place false))
@@ -74,7 +73,7 @@ module _ (looked_at : List Bool) (image : ImageValue) (w : World) (t : Step) (fr
           ∙ sym (ap (λ x. runs_at_places first last (stream_at w x)) same)
       by_step (inr apart) =
           by_name first last (after image w t) u
-          ∙ ap (is_in_range first last) (free_others image w t u free.free apart)
+          ∙ ap (is_in_range first last) (free.others u apart)
           ∙ sym (by_name first last w u)
 
     -- 1 where the stream of a step runs at places of the range, else 0
@@ -89,19 +88,23 @@ module _ (looked_at : List Bool) (image : ImageValue) (w : World) (t : Step) (fr
         ∙ sym (sum_by-cons (one_at w) u us)
 
   same_form : (f : ClaimForm) → ((place : ℕ) → IsTrue (form_looks_at place f) → IsTrue (slice_index_or looked_at place false))
+      → ((a : ℕ) → IsTrue (form_looks_at_word a f) → Contains words a)
       → form_holds (after image w t) f ≡ form_holds w f
-  same_form (form.Word a test) covers = ap (λ m. word_holds test (cell_at m a)) (free_memory image w t free.free)
-  same_form (form.AtMost most us first last) covers =
+  same_form (form.Word a test) covers named = ap (word_holds test) (free.cells a (named a (eq-eqb a a refl)))
+  same_form (form.AtMost most us first last) covers named =
       ap (λ n. nat_le n most) (same_count first last covers us.items)
 
   pub same_claims : (cs : List Claim)
       → ((place : ℕ) → IsTrue (is_looked_at cs place) → IsTrue (slice_index_or looked_at place false))
+      → ((a : ℕ) → IsTrue (is_word_looked_at cs a) → Contains words a)
       → all_hold cs (after image w t) ≡ all_hold cs w
-  same_claims [] covers = refl
-  same_claims (c ∷ cs) covers =
+  same_claims [] covers named = refl
+  same_claims (c ∷ cs) covers named =
       let here =
       same_form c.form
-      (λ place is. covers place (or_left (form_looks_at place c.form) (is_looked_at cs place) is)) in
+      (λ place is. covers place (or_left (form_looks_at place c.form) (is_looked_at cs place) is))
+      (λ a is. named a (or_left (form_looks_at_word a c.form) (is_word_looked_at cs a) is)) in
       let others =
-      same_claims cs (λ place is. covers place (or_right (form_looks_at place c.form) (is_looked_at cs place) is)) in
+      same_claims cs (λ place is. covers place (or_right (form_looks_at place c.form) (is_looked_at cs place) is))
+      (λ a is. named a (or_right (form_looks_at_word a c.form) (is_word_looked_at cs a) is)) in
       λ i. holds_by c.scope (here i) && others i

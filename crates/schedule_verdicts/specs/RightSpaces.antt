@@ -1,14 +1,14 @@
 -- Whether every schedule is right.
-use Rattle.std.specs.Prelude.{◌≡◌, ℕ, ◌<◌, ◌++◌, ◌⊎◌, Bool, false, List, [], IsTrue, slice_index_or}
+use Rattle.std.specs.Prelude.{ℕ, ◌<◌, ◌++◌, Bool, false, List, IsTrue, slice_index_or}
+use Rattle.std.specs.List.{Contains}
 use Rattle.image_file.specs.ImageValue.{ImageValue}
 use Rattle.processor.specs.World.{run}
 use Rattle.processor.specs.declared.steps.Step.{Step}
 use Rattle.expectations.specs.declared.expectation.Expectation.{Expectation}
-use Rattle.claims.specs.Looking.{is_looked_at}
+use Rattle.claims.specs.Looking.{is_looked_at, is_word_looked_at}
 use Rattle.claims.specs.declared.claim.Claim.{Claim}
 use Rattle.busy_streams.specs.ScheduleSpace.Spaces.{SpaceValue, count, world_of}
 use Rattle.busy_streams.specs.ScheduleSpace.Reaching.{IsEnd, CanEnd}
-use Rattle.busy_streams.specs.ScheduleSpace.Followed.{AllFollowed}
 use Rattle.busy_streams.specs.ScheduleSpace.Quiet.{AllFollowedQuietly}
 use Rattle.schedule_verdicts.specs.RightEnds.{IsRightEnd}
 use Rattle.schedule_verdicts.specs.KeptClaims.{all_hold, AreKept}
@@ -27,17 +27,14 @@ pub record IsRightOnEachWay (image : ImageValue) (begin : List Step) (expected :
 
 -- Of a space.
 
--- Each step from its worlds is taken, or one that can be taken before all others, and that nobody sees who looks at the
--- places at which the claims look.
-pub record IsQuietForClaims (v : SpaceValue) (claims : List Claim) : Type 0 where
+-- Its worlds show whether claims hold: each step from them is taken, or those of a set that can be taken before all others,
+-- one of which nobody sees who looks at the places and words at which the claims look.
+pub record IsFollowedForClaims (v : SpaceValue) (claims : List Claim) : Type 0 where
   pub looked_at : List Bool
+  pub words : List ℕ
   pub covers : (place : ℕ) → IsTrue (is_looked_at claims place) → IsTrue (slice_index_or looked_at place false)
-  pub quiet : AllFollowedQuietly looked_at v
-
--- Its worlds show whether claims hold: there are none, and from each world all steps are taken, or those of a set that can be
--- taken before all others; or steps that are left out can't be seen by them.
-abbrev pub IsFollowedForClaims : SpaceValue → List Claim → Type 0
-IsFollowedForClaims v claims = ((claims ≡ []) × AllFollowed v) ⊎ IsQuietForClaims v claims
+  pub covers_words : (a : ℕ) → IsTrue (is_word_looked_at claims a) → Contains words a
+  pub quiet : AllFollowedQuietly looked_at words v
 
 -- the world at this place is a right end, if it is an end
 pub record IsRightAt (v : SpaceValue) (expected : List Expectation) (k : ℕ) : Type 0 where

@@ -15,7 +15,7 @@ use Rattle.schedule_space.specs.Spaces.{SpaceValue, count, schedule_of, world_of
 use Rattle.schedule_space.specs.Finding.{IsExpanded, IsExpanding}
 use Rattle.schedule_space.specs.Kept.{AreKept}
 use Rattle.schedule_space.proofs.Breadth.{breadth_begun, breadth_next, shortest_all}
-use Rattle.schedule_space.specs.Quiet.{IsFollowedBy}
+use Rattle.schedule_space.specs.Quiet.{IsFollowedQuietly}
 use Rattle.schedule_space.proofs.Growing.{grown_refl}
 use Rattle.schedule_space.proofs.Taking.{expanded_more}
 use Rattle.schedule_space.proofs.Alone.{followed_more, same_followed}
@@ -47,7 +47,7 @@ loop-from-init g c =
       begin = ap (λ (x : SpaceValue). x.begin) is;
       names = ap (λ (x : SpaceValue). x.live.names) is ∙ c.in_ok-live.ensures.names;
       expanded = λ _ k below. absurd (omega arith);
-      followed = λ k below. absurd (omega arith);
+      quiet = λ k below. absurd (omega arith);
       inside = omega arith;
       within = omega (arith, ap count is, c.world_limit-limit.ensures.some);
       edges = λ e has. absurd (omega (arith, has.1, ap (λ (x : SpaceValue). length x.edges) is));
@@ -75,17 +75,17 @@ expand-expanded-requires g c =
     subst (AreSettled v.image) (sym c.deref.ensures.value)
     (subst (λ (i : ImageValue). AreSettled i c.in_ok-settled.settled.items) (sym c.loop-from.invariant.image)
     c.in_ok-settled.ensures) in
-    let closed : c.args.by_sets ≡ true → (p : ℕ)
+    let closed : c.takes_sets-by_sets.result ≡ true → (p : ℕ)
     → IsClosedTable v.image.profile v.image.program (table_at c.deref-2.result.now p) =
     λ on.
     subst (λ (ts : List TouchValue). (p : ℕ) → IsClosedTable v.image.profile v.image.program (table_at ts p))
     (sym c.deref-2.ensures.value)
     (subst (λ (i : ImageValue). (p : ℕ) → IsClosedTable i.profile i.program (table_at c.in_ok-tables.tables.items p))
     (sym c.loop-from.invariant.image) (c.in_ok-tables.ensures on)) in
-    let unforwarded : c.args.by_sets ≡ true → IsUnforwarded (world_of v n).memory =
+    let unforwarded : c.takes_sets-by_sets.result ≡ true → IsUnforwarded (world_of v n).memory =
     λ on.
     subst (λ (i : ImageValue). IsUnforwarded (run i (schedule_of v n)).memory) (sym c.loop-from.invariant.image)
-    (c.requires.unforwarded on (schedule_of v n)) in
+    (c.takes_sets-by_sets.ensures on (schedule_of v n)) in
     search rules
 
 pub returns-then-from-len-clause-image : goal.returns-then-from-len-clause-image
@@ -105,10 +105,10 @@ returns-then-from-len-clause-expanded g c = λ on _.
     same_expanded c.loop-from.found c.into_space.result c.into_space.ensures.is
     (λ k less. c.loop-from.invariant.expanded on k (omega (arith, less, c.len.ensures, c.if-from-len.true)))
 
-pub returns-then-from-len-clause-followed : goal.returns-then-from-len-clause-followed
-returns-then-from-len-clause-followed g c = λ _.
-    same_followed c.args.by_sets c.args.looked_at.now c.loop-from.found c.into_space.result c.into_space.ensures.is
-    (λ k less. c.loop-from.invariant.followed k (omega (arith, less, c.len.ensures, c.if-from-len.true)))
+pub returns-then-from-len-clause-quiet : goal.returns-then-from-len-clause-quiet
+returns-then-from-len-clause-quiet g c = λ _.
+    same_followed c.args.observation.places.now c.args.observation.words.now c.loop-from.found c.into_space.result c.into_space.ensures.is
+    (λ k less. c.loop-from.invariant.quiet k (omega (arith, less, c.len.ensures, c.if-from-len.true)))
 
 pub returns-then-from-len-clause-shortest : goal.returns-then-from-len-clause-shortest
 returns-then-from-len-clause-shortest g c = λ on.
@@ -182,7 +182,7 @@ loop-from-preserved g c =
     let new = c.expand-expanded.new.self in
     let n = c.loop-from.from in
     let well : is_err c.expand-expanded.result ≡ false = search rules in
-    let followed = ended_well c.expand-expanded.result (IsFollowedBy c.args.by_sets c.args.looked_at.now new n) well c.expand-expanded.ensures.followed in
+    let quiet = ended_well c.expand-expanded.result (IsFollowedQuietly c.args.observation.places.now c.args.observation.words.now new n) well c.expand-expanded.ensures.quiet in
     record {
       image = c.expand-expanded.ensures.grown.image ∙ c.loop-from.invariant.image;
       begin = c.expand-expanded.ensures.grown.begin ∙ c.loop-from.invariant.begin;
@@ -190,8 +190,8 @@ loop-from-preserved g c =
       expanded = λ on.
           expanded_more old new n c.expand-expanded.ensures.grown below (c.loop-from.invariant.expanded on)
           (ended_well c.expand-expanded.result (IsExpanded new n) well (c.expand-expanded.ensures.expanded on));
-      followed =
-          followed_more c.args.by_sets c.args.looked_at.now old new n c.expand-expanded.ensures.grown below c.loop-from.invariant.followed followed;
+      quiet =
+          followed_more c.args.observation.places.now c.args.observation.words.now old new n c.expand-expanded.ensures.grown below c.loop-from.invariant.quiet quiet;
       inside = omega (arith, below, c.expand-expanded.ensures.grown.more);
       within = c.expand-expanded.ensures.expanding.within;
       edges = λ e has. let at = c.expand-expanded.ensures.expanding.edges e has in omega (arith, at);
@@ -216,10 +216,10 @@ returns-clause-expanded g c = λ on _.
     same_expanded c.loop-from.found c.into_space-2.result c.into_space-2.ensures.is
     (λ k less. c.loop-from.invariant.expanded on k (omega (arith, less, c.loop-from.invariant.within, c.loop-from-test.false)))
 
-pub returns-clause-followed : goal.returns-clause-followed
-returns-clause-followed g c = λ _.
-    same_followed c.args.by_sets c.args.looked_at.now c.loop-from.found c.into_space-2.result c.into_space-2.ensures.is
-    (λ k less. c.loop-from.invariant.followed k (omega (arith, less, c.loop-from.invariant.within, c.loop-from-test.false)))
+pub returns-clause-quiet : goal.returns-clause-quiet
+returns-clause-quiet g c = λ _.
+    same_followed c.args.observation.places.now c.args.observation.words.now c.loop-from.found c.into_space-2.result c.into_space-2.ensures.is
+    (λ k less. c.loop-from.invariant.quiet k (omega (arith, less, c.loop-from.invariant.within, c.loop-from-test.false)))
 
 pub returns-clause-shortest : goal.returns-clause-shortest
 returns-clause-shortest g c = λ on.

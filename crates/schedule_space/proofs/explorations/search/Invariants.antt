@@ -5,7 +5,7 @@ use Rattle.schedule_space.specs.declared.links.Edge.{Edge}
 use Rattle.schedule_space.specs.Spaces.{count}
 use Rattle.schedule_space.specs.Finding.{IsExpanded, IsBreadthFirst}
 use Rattle.schedule_space.specs.Kept.{AreKept}
-use Rattle.schedule_space.specs.Quiet.{IsFollowedBy}
+use Rattle.schedule_space.specs.Quiet.{IsFollowedQuietly}
 use Rattle.schedule_space.specs.declared.expanding.Wanted.TheVariants as Wanted
 use Rattle.schedule_space.proofs.explorations.search.Given as goal
 
@@ -15,7 +15,7 @@ invariant-loop-from g l = record {
   begin : l.found.begin ≡ l.begin;
   names : l.found.live.names ≡ l.names;
   expanded : l.wanted ≡ Wanted.Worlds → (k : ℕ) → k < l.from → IsExpanded l.found k;
-  followed : (k : ℕ) → k < l.from → IsFollowedBy l.by_sets l.looked_at l.found k;
+  quiet : (k : ℕ) → k < l.from → IsFollowedQuietly l.observation.places.now l.observation.words.now l.found k;
   inside : l.from ≤ count l.found;
   within : count l.found ≤ l.limit;
   edges : (e : Edge) → Contains l.found.edges e → e.from < l.from;

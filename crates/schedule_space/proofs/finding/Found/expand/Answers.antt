@@ -34,10 +34,10 @@ take_enough-requires g c =
     no_edges_yet v c.args.from c.deref-in-Ends.result.now c.requires.edges in
     search rules
 
-pub returns-in-Worlds-clause-followed : goal.returns-in-Worlds-clause-followed
-returns-in-Worlds-clause-followed g c =
+pub returns-in-Worlds-clause-quiet : goal.returns-in-Worlds-clause-quiet
+returns-in-Worlds-clause-quiet g c =
     let v = c.args.self.now in
-    followed_if c.take_all.result c.args.shortcuts.by_sets c.args.shortcuts.looked_at.now c.take_all.new.self c.args.from
+    followed_if c.take_all.result c.args.shortcuts.observation.places.now c.args.shortcuts.observation.words.now c.take_all.new.self c.args.from
     (expanded_if c.take_all.result v c.take_all.new.self c.args.from c.deref.result.now c.take_all.ensures.grown
     c.requires.expanding.there
     (subst (HasRunning (world_of v c.args.from)) (sym c.deref.ensures.value) c.in_ok-running.ensures.all)

@@ -1,5 +1,6 @@
-use Rattle.std.proofs.Common.{arith, rules, refl, sym, subst, get_or}
+use Rattle.std.proofs.Common.{◌<◌, ◌∙◌, arith, rules, refl, sym, subst, get_or}
 use Rattle.std.specs.List.{Contains}
+use Rattle.std.proofs.lemmas.Bool.{ltb-true}
 use Rattle.std.proofs.lemmas.List.Elements.{Contains-get_or}
 use Rattle.processor.specs.declared.steps.Step.{Step}
 use Rattle.schedule_space.specs.Finding.{IsTaken, IsExpanding, HasNoEdge}
@@ -7,6 +8,8 @@ use Rattle.schedule_space.specs.Kept.{AreKeptAt}
 use Rattle.schedule_space.proofs.Different.{no_edges_at, no_edges_next}
 use Rattle.schedule_space.proofs.Growing.{grown_refl, grown_trans}
 use Rattle.schedule_space.proofs.Taking.{taken_next, taken_each}
+use Rattle.schedule_space.proofs.TakenTogether.{some_later, some_later_grown}
+use Rattle.schedule_space.proofs.finding.Found.take_each.Goals.{then-is_later, else-is_later+then-to-from, else-is_later+else-to-from}
 use Rattle.schedule_space.proofs.finding.Found.take_each.Goals as goal
 
 pub take-requires : goal.take-requires
@@ -26,6 +29,7 @@ loop-place-init g c = record {
   taken = λ k d below. absurd (omega arith);
   new = no_edges_at c.args.self.now c.args.from c.args.steps.now c.requires.new;
   machines = c.requires.machines;
+  later = λ on. cc;
   edges = λ t out none. none;
 }
 
@@ -51,6 +55,19 @@ loop-place-preserved g c =
           no_edges_next here new c.args.from n ts (get_or ts n none) none c.requires.once refl c.take.ensures.edges (omega arith)
           c.loop-place.invariant.new;
       machines = search rules;
+      later = λ on. elim c.if-is_later.branch [
+        | then-is_later w ↦
+            some_later_grown here new c.args.from c.args.unseen.now c.take.ensures.grown
+            c.loop-place.invariant.expanding.there (c.loop-place.invariant.later w.if-is_later.true)
+        | else-is_later+then-to-from w ↦
+            some_later new c.args.from c.in_ok-to.to c.args.unseen.now (get_or ts n none) c.in_ok-to.ensures.to
+            w.if-to-from.true (sym w.is_in.ensures ∙ sym w.is_later-is ∙ on)
+        | else-is_later+else-to-from w ↦
+            let past : c.args.from < c.in_ok-to.to =
+            ltb-true c.args.from c.in_ok-to.to (sym w.is_later-is ∙ on) in
+            let not_past = w.if-to-from.false in
+            absurd (omega (arith, past, not_past))
+      ];
       edges = λ t out none0.
           c.take.ensures.edges t (λ same. out (subst (Contains ts) (sym same) (Contains-get_or ts n none (omega arith))))
           (c.loop-place.invariant.edges t out none0);
@@ -63,5 +80,6 @@ returns g c = record {
   full = λ e. absurd cc;
   machines = c.loop-place.invariant.machines;
   edges = c.loop-place.invariant.edges;
+  later = c.loop-place.invariant.later;
   taken = taken_each c.loop-place.self c.args.from c.loop-place.place c.args.steps.now (omega arith) c.loop-place.invariant.taken;
 }

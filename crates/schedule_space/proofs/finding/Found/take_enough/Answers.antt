@@ -1,4 +1,4 @@
-use Rattle.std.proofs.Common.{◌≡◌, ℕ, sym, arith, rules, refl, subst, get_or}
+use Rattle.std.proofs.Common.{inr, ◌≡◌, ℕ, sym, arith, rules, refl, subst, get_or}
 use Rattle.std.specs.Prelude.{OnOk, List}
 use Rattle.std.specs.List.{Contains}
 use Rattle.tag_memory.specs.Unforwarded.{IsUnforwarded}
@@ -14,7 +14,7 @@ use Rattle.schedule_space.specs.Finding.{IsExpanding, HasNoEdge, HaveNoEdges, Ha
 use Rattle.schedule_space.proofs.Different.{different_same, no_edges_at, no_edges_next, waiting_none, waiting_next}
 use Rattle.schedule_space.proofs.Growing.{grown_refl, grown_trans, world_grown}
 use Rattle.schedule_space.proofs.Taking.{AreAllTaken, IsTakenOrWaits, waits_next, each_waits}
-use Rattle.schedule_space.proofs.Alone.{expanded_if, followed_if, followed_by_sets, quiet_by, waiting_taken}
+use Rattle.schedule_space.proofs.Alone.{expanded_if, followed_if, waiting_taken}
 use Rattle.schedule_space.proofs.finding.Found.take_enough.Goals as goal
 
 pub take_free-requires : goal.take_free-requires
@@ -52,7 +52,7 @@ returns-then-is_later g c = record {
   expanding = c.take_free.ensures.expanding;
   full = λ e. absurd cc;
   machines = c.in_ok-is_later.ensures.machines;
-  followed = quiet_by c.args.shortcuts.by_sets c.args.shortcuts.looked_at.now c.take_free.new.self c.args.from (c.in_ok-is_later.ensures.alone c.if-is_later.true);
+  quiet = inr (c.in_ok-is_later.ensures.alone c.if-is_later.true);
 }
 
 pub loop-step-preserved : goal.loop-step-preserved
@@ -114,11 +114,6 @@ returns-then-shortcuts-clause-grown g c =
     grown_trans c.args.self.now c.loop-step.self c.take_set_or_all.new.self c.loop-step.invariant.grown
     c.take_set_or_all.ensures.grown
 
-pub returns-then-shortcuts-clause-followed : goal.returns-then-shortcuts-clause-followed
-returns-then-shortcuts-clause-followed g c =
-    followed_by_sets c.take_set_or_all.result c.args.shortcuts.by_sets c.args.shortcuts.looked_at.now c.take_set_or_all.new.self
-    c.args.from c.if-shortcuts.true c.take_set_or_all.ensures.followed
-
 pub take_all-requires : goal.take_all-requires
 take_all-requires g c =
     let v = c.loop-step.self in
@@ -139,8 +134,8 @@ returns g c = record {
   expanding = c.take_all.ensures.expanding;
   full = c.take_all.ensures.full;
   machines = c.take_all.ensures.machines;
-  followed =
-      followed_if c.take_all.result c.args.shortcuts.by_sets c.args.shortcuts.looked_at.now c.take_all.new.self c.args.from
+  quiet =
+      followed_if c.take_all.result c.args.shortcuts.observation.places.now c.args.shortcuts.observation.words.now c.take_all.new.self c.args.from
       (expanded_if c.take_all.result c.args.self.now c.take_all.new.self c.args.from
       c.args.running.now
       (grown_trans c.args.self.now c.loop-step.self c.take_all.new.self c.loop-step.invariant.grown c.take_all.ensures.grown)

@@ -30,5 +30,5 @@ returns-clause-alone g c = λ later.
     let free =
     c.is_free_step.ensures.free
     (subst (λ (m : MachineValue). AreSettled m.image c.args.shortcuts.settled.now) (sym at) c.requires.settled) (search rules) in
-    quiet_at c.args.shortcuts.looked_at.now v c.take.new.self from c.in_ok-to.to c.unwrap-here.result.now c.args.link.step
+    quiet_at c.args.shortcuts.observation.places.now c.args.shortcuts.observation.words.now v c.take.new.self from c.in_ok-to.to c.unwrap-here.result.now c.args.link.step
     c.take.ensures.grown c.requires.expanding.there at free (search rules) c.in_ok-to.ensures.to (search rules)

@@ -1,10 +1,10 @@
-use Rattle.std.proofs.Common.{inr, subst, List}
+use Rattle.std.proofs.Common.{subst, List}
 use Rattle.expectations.specs.declared.expectation.Expectation.{Expectation}
 use Rattle.space_ends.specs.ScheduleSpace.Answers.{space_in}
 use Rattle.space_ends.specs.ScheduleVerdicts.NamedRegisters.{AreNamed}
 use Rattle.space_ends.specs.ScheduleVerdicts.RightSpaces.{IsFollowedForClaims}
 use Rattle.program_searches.proofs.Knowing.{of_ends, shown_by, names_known}
-use Rattle.program_searches.proofs.spaces.claimed_worlds.Goals as goal
+use Rattle.program_searches.proofs.spaces.needed_worlds.Goals as goal
 
 pub returns-in-Ok-clause-searched : goal.returns-in-Ok-clause-searched
 returns-in-Ok-clause-searched g c =
@@ -22,7 +22,7 @@ returns-in-Ok-clause-searched g c =
           (names_known c.ends.result.now c.named_registers-names.result v.live.names c.in-Ok.ensures.names
           c.named_registers-names.ensures);
       claimed =
-          subst (IsFollowedForClaims v) c.claims.ensures
-          (inr (shown_by v c.claims.result.now c.in_ok-places.places.items c.deref.result.now c.deref.ensures.value
-          c.in_ok-places.ensures (c.in-Ok.ensures.quiet on)));
+          subst (IsFollowedForClaims v) c.claims-claims.ensures
+          (shown_by v c.claims-claims.result.now c.in_ok-places.places.items c.deref.result.now c.in_ok-words.words.items
+          c.deref-2.result.now c.deref.ensures.value c.deref-2.ensures.value c.in_ok-places.ensures c.in_ok-words.ensures (c.in-Ok.ensures.quiet on));
     })
