@@ -65,7 +65,7 @@ class Every(NamedTuple):
 
 def by_every(program, wanted, most, is_plain):
     """What every schedule shows."""
-    space = (search.Space if is_plain else Reduced)(program, (), most)
+    space = search.Space(program, (), most) if is_plain else Reduced(program, wanted.claims, most)
     if not space.is_whole:
         return Every(NOT_DECIDED)
     ends = space.ends()
@@ -98,12 +98,11 @@ def worlds_of(program, schedule):
 
 
 class Reduced:
-    """The worlds that the search for ends alone looks at, as a space. All that is claimed here is about words, so that what
-    this search leaves out makes no difference."""
+    """The worlds that the search for ends and claims alone looks at, as a space."""
 
-    def __init__(self, program, begin, most):
+    def __init__(self, program, claims, most):
         self.program = program
-        alone = EndsAlone(program, begin, (), most)
+        alone = EndsAlone(program, (), (), most, *expectations.looked_at(claims))
         self.is_whole, self.worlds = alone.is_whole, alone.worlds
         self.after = {world: [] for world in alone.worlds}
         for before, to in alone.steps:

@@ -41,11 +41,11 @@ class Case:
         self.claims = expectations.random_claims(chance, self.made) if chance.random() < 0.7 else []
         self.ends_alone = EndsAlone(self.made.program, (), (), MOST)
         self.expected_alone = EndsAlone(self.made.program, (), expectations.named(self.expected), MOST,
-                                        looked_at(self.claims))
+                                        *expectations.looked_at(self.claims))
         self.begin = begin_of(chance, self.space)
         self.begun = search.Space(self.made.program, self.begin, MOST)
         self.begun_claims = expectations.random_claims(chance, self.made)
-        self.begun_alone = EndsAlone(self.made.program, self.begin, (), MOST, looked_at(self.begun_claims))
+        self.begun_alone = EndsAlone(self.made.program, self.begin, (), MOST, *expectations.looked_at(self.begun_claims))
         self.paths = {name: os.path.join(folder, f"{seed}.{name}") for name in ("asm", "expect", "claims", "busy", "schedule")}
         self.write()
 
@@ -237,11 +237,6 @@ class Case:
         if self.space.spinning():
             return SPINS
         return "wrong" if unshown(self.space, claims) else RIGHT
-
-
-def looked_at(claims):
-    """The places at which claims look; None where nothing is claimed."""
-    return expectations.looked_at(claims) if claims else None
 
 
 def begin_of(chance, space):

@@ -1,7 +1,7 @@
 """The search for ends alone, by the rules of docs/LAB_REFERENCE.md ("Every schedule"): of worlds that differ in registers alone that
 nobody reads again, and in condition codes that nobody asks for again, one is kept, and a step that concerns nobody else, and
-at which no claim looks, is taken alone where it leads to a later world. So are, where nothing is claimed, the steps of a set
-that no other stream comes to meet."""
+that no claim can see, is taken alone where it leads to a later world. So are the steps of a set that no other stream comes to
+meet, where one of them is such a step."""
 
 import collections
 
@@ -10,15 +10,16 @@ from asking import Asking
 from first_sets import FirstSets
 from liveness import ALL, Liveness
 from settled import Settled
+from touched import may_change
 
 
 class EndsAlone:
     """The worlds that the search looks at, and between which places steps lead; registers that are named are kept, claims
-    look at the places in `looked_at`, None where nothing is claimed, and `most` is how many worlds there may be."""
+    look at the places in `looked_at` and at these words, and `most` is how many worlds there may be."""
 
-    def __init__(self, program, begin, named, most, looked_at=None):
+    def __init__(self, program, begin, named, most, looked_at=(), words=()):
         self.program, self.named, self.most = program, frozenset(named), most
-        self.looked_at, self.by_sets = frozenset(looked_at or ()), looked_at is None
+        self.looked_at, self.words = frozenset(looked_at), frozenset(words)
         self.live = Liveness(program)
         self.asking = Asking(program, self.live.is_handled)
         self.settled = Settled(program)
@@ -70,9 +71,10 @@ class EndsAlone:
                 others.append((p, s))
             elif self.take(at, p, s) > at:
                 return
-        found = self.first_sets.least(world) if self.by_sets else None
+        found = self.first_sets.least(world)
         first = [step for step in others if step in found] if found else others
-        if not max([self.take(at, p, s) > at for p, s in first], default=False):
+        later = [(p, s) for p, s in first if self.take(at, p, s) > at]
+        if found and not any(self.is_unseen(world, step) for step in later):
             for p, s in [step for step in others if step not in first]:
                 self.take(at, p, s)
 
@@ -89,6 +91,19 @@ class EndsAlone:
         after, _ = machine.step(self.program, world, p, s)
         streams = [at.processors[p].streams[s] for at in (world, after)]
         return any(stream.status == "running" and stream.ssw % 2**32 in self.looked_at for stream in streams)
+
+    def is_unseen(self, world, step):
+        """Whether the reference of a step is of no word that is looked at, or only reads, and neither stands at a place that is
+        looked at nor leads to one."""
+        p, s = step
+        after, _ = machine.step(self.program, world, p, s)
+        before, behind = [at.processors[p].streams[s] for at in (world, after)]
+        place = before.ssw % 2**32
+        # (a stream that ends is no more; it has ended past its instruction)
+        to = behind.ssw % 2**32 if behind.status != "idle" else place + 1
+        asked = self.first_sets.request(world, step).pointer % 2**48 // 8
+        is_changed = may_change(self.first_sets.asked(world, step))
+        return not self.looked_at & {place, to} and not (is_changed and asked in self.words)
 
     def leading_to(self, world):
         """From how many of the worlds steps lead to the one that is kept for a world."""

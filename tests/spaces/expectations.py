@@ -161,9 +161,10 @@ def at_most(chance, made):
 
 
 def looked_at(claimed):
-    """The places of the program at which some claims look."""
+    """The places of the program at which some claims look, and the numbers of the words."""
     ranges = [claim.operands[2:] for claim in claimed if claim.form == "at"]
-    return {place for first, last in ranges for place in range(first, last + 1)}
+    words = {claim.operands[0] for claim in claimed if claim.form != "at"}
+    return {place for first, last in ranges for place in range(first, last + 1)}, words
 
 
 def holds(claim, world):

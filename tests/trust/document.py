@@ -12,7 +12,7 @@ ROOTS = (
     # mta_sim: the headline's first half, its second half, what stands below and above them
     "machine Machine::run", "mta_engines one_machine", "memory_lock threaded", "mta_sim run_tool",
     # every schedule: what a search has, how a run ends and who waits, what stands on a search
-    "schedule_space explore", "schedule_space explore_ends", "schedule_space explore_ends_by_sets", "end_kinds end_kind_of",
+    "schedule_space explore", "schedule_space explore_ends", "end_kinds end_kind_of",
     "stream_waits waits_of",
     "stream_waits circle_of", "space_graphs ends_ahead", "busy_streams first_busy", "terminal_components terminal_roots",
     "terminal_components shortest_cycle",
