@@ -24,11 +24,11 @@ LINES, NAMES = 180_000, 4096
 FILES = 2000
 # how many words a long program has
 LONG = 16_000
-# how many states the eight philosophers of bench/search_programs.sh have where something is claimed, which take 280 megabytes;
-# fewer megabytes than that, and more. Without a claim, which holds always, far fewer states would do (LAB_REFERENCE.md, "Every
-# schedule")
+# how many states the eight philosophers of bench/search_programs.sh have where something is claimed of each word, which take 280
+# megabytes; fewer megabytes than that, and more. Without these claims, which hold always, far fewer states would do
+# (LAB_REFERENCE.md, "Every schedule")
 PHILOSOPHERS, TOO_FEW, ENOUGH = 734_871, 200, 800
-CLAIM = b"always word 0 is 0\n"
+CLAIMS = b"".join(b"always word %d is 0\n" % fork for fork in range(0, 64, 8))
 
 
 def lab(*words, **how):
@@ -88,10 +88,10 @@ def streams(count):
 
 def of_grade(tally, folder):
     """Searches side by side share the megabytes."""
-    for what, text, claim, sizes in (("large machines", growing(8, 1000, 128), b"", (300, 1000)),
-                                     ("philosophers", philosophers(12, 3), CLAIM, (200,)),
+    for what, text, claims, sizes in (("large machines", growing(8, 1000, 128), b"", (300, 1000)),
+                                     ("philosophers", philosophers(12, 3), CLAIMS, (200,)),
                                      ("32 streams", streams(32), b"", (200, 1000))):
-        expected = write(folder, "any.expect", b"word 0 123456789\n" + claim)
+        expected = write(folder, "any.expect", b"word 0 123456789\n" + claims)
         # (submissions of the same bytes are judged once)
         paths = [write(folder, f"grows{number}.asm", text + b"; %d\n" % number) for number in range(8)]
         for size, jobs in ((size, jobs) for size in sizes for jobs in ("1", "4")):
@@ -107,7 +107,7 @@ def of_thorough(tally, folder):
     """Searches with more and more megabytes: up to too few of them a right program is not decided, up to enough it is right."""
     script = os.path.join(ROOT, "bench/search_programs.sh")
     path = write(folder, "eight.asm", subprocess.run([script, "philosophers"], capture_output=True, check=True).stdout)
-    expected = write(folder, "eight.expect", b"word 64 8\nfinished\n" + CLAIM)
+    expected = write(folder, "eight.expect", b"word 64 8\nfinished\nalways word 64 below 9\n" + CLAIMS)
     for size, status, row in ((TOO_FEW, 5, rb"not decided\tsome schedules, \d+ states, ended by --memory, and 1 seed"),
                               (ENOUGH, 0, b"right\tevery schedule, %d states, and 1 seed" % PHILOSOPHERS)):
         ended = lab("grade", "--explore", "--thorough", "--memory", str(size), "--jobs", "1", "--seeds", "1", "--expect", expected,
