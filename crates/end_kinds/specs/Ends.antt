@@ -31,10 +31,12 @@ abbrev pub SomeStopped : World → Type 0
 SomeStopped w = (t : Step) × IsTrue (stopped_in w t)
 
 -- The kind of the end that a world is, if no step follows. Nothing but a search over all worlds shows that a program
--- spins.
+-- spins, and no world shows what a file of expectations lets a program do.
 abbrev pub IsKindOf : ImageValue → World → EndKind → Type 0
 IsKindOf image w kind.Finished = (¬ (SomeRuns w)) × (¬ (SomeStopped w))
 IsKindOf image w kind.Stopped = (¬ (SomeRuns w)) × SomeStopped w
 IsKindOf image w kind.Deadlock = IsStandstill image w
+IsKindOf image w kind.Waiting = ⊥
 IsKindOf image w kind.Spinning = ⊥
+IsKindOf image w kind.Looping = ⊥
 IsKindOf image w kind.OutOfSteps = SomeRuns w × (¬ (IsStandstill image w))

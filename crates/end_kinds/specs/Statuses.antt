@@ -33,5 +33,7 @@ abbrev pub status_of : EndKind → Bool → Bool → Status
 status_of kind.Finished missed trapped = unexpected_if (missed || trapped) status.Done
 status_of kind.Stopped missed trapped = unexpected_if (missed || trapped) status.Done
 status_of kind.Deadlock missed trapped = status.Deadlock
+status_of kind.Waiting missed trapped = unexpected_if (missed || trapped) status.Done
 status_of kind.Spinning missed trapped = unexpected_if trapped status.OutOfSteps
+status_of kind.Looping missed trapped = unexpected_if trapped status.Done
 status_of kind.OutOfSteps missed trapped = unexpected_if trapped status.OutOfSteps

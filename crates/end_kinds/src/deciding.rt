@@ -8,7 +8,8 @@ use waiting::machines::Machine;
 use waiting::streams::Status;
 use waiting::{is_standstill, some_run};
 
-/// Which kind of end the world of a machine is, if no step follows. Never `Spinning`, which no world shows by itself.
+/// Which kind of end the world of a machine is, if no step follows. Never `Spinning`, `Waiting` or `Looping`, which no world
+/// shows by itself.
 pub fn end_kind_of<const S: usize>(machine: &Machine<'_, S>) -> EndKind
     ensures is { IsKindOf machine.now.image machine.now.world result }
     ensures only { (kind : EndKind) → IsKindOf machine.now.image machine.now.world kind → kind ≡ result }

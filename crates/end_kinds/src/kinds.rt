@@ -12,8 +12,12 @@ pub enum EndKind {
     Stopped,
     /// Some stream runs, and none that runs can ever go on.
     Deadlock,
+    /// The same, where the file of expectations lets each stream that runs wait there. No world shows it by itself.
+    Waiting,
     /// Some stream runs forever: no schedule leads to an end. No single world shows it, only a search over all.
     Spinning,
+    /// The same, where the file of expectations lets the program go on forever.
+    Looping,
     /// Some stream runs that can go on: the schedule ended first.
     OutOfSteps,
 }
@@ -27,7 +31,9 @@ impl EndKind {
             EndKind::Finished => "finished",
             EndKind::Stopped => "stopped",
             EndKind::Deadlock => "deadlock",
+            EndKind::Waiting => "waiting",
             EndKind::Spinning => "spinning",
+            EndKind::Looping => "looping",
             EndKind::OutOfSteps => "out of steps",
         }
     }
@@ -38,9 +44,12 @@ impl EndKind {
     {
         match self {
             EndKind::OutOfSteps => "steps",
-            EndKind::Finished | EndKind::Stopped | EndKind::Deadlock | EndKind::Spinning => {
-                self.name()
-            }
+            EndKind::Finished
+            | EndKind::Stopped
+            | EndKind::Deadlock
+            | EndKind::Waiting
+            | EndKind::Spinning
+            | EndKind::Looping => self.name(),
         }
     }
 
@@ -51,7 +60,9 @@ impl EndKind {
         match self {
             EndKind::Finished | EndKind::Stopped => "nobody runs",
             EndKind::Deadlock => "deadlock",
+            EndKind::Waiting => "waits",
             EndKind::Spinning => "spins",
+            EndKind::Looping => "loops",
             EndKind::OutOfSteps => "ran out of steps",
         }
     }

@@ -67,15 +67,15 @@ impl Status {
 }
 
 /// The status of one end: of this kind, which misses what is expected of it or not, and where a trap that nobody
-/// expected stopped a stream or not. What is expected of an end is only asked where nobody runs any more.
+/// expected stopped a stream or not. What is expected of an end is only asked where nothing goes on any more.
 pub fn status_of(kind: EndKind, is_missed: bool, is_trapped: bool) -> Status
     ensures { result ≡ status_of kind is_missed is_trapped }
 {
     match kind {
         EndKind::Deadlock => Status::Deadlock,
-        EndKind::Finished | EndKind::Stopped if is_missed => Status::Unexpected,
+        EndKind::Finished | EndKind::Stopped | EndKind::Waiting if is_missed => Status::Unexpected,
         _ if is_trapped => Status::Unexpected,
         EndKind::Spinning | EndKind::OutOfSteps => Status::OutOfSteps,
-        EndKind::Finished | EndKind::Stopped => Status::Done,
+        EndKind::Finished | EndKind::Stopped | EndKind::Waiting | EndKind::Looping => Status::Done,
     }
 }

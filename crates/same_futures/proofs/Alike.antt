@@ -278,7 +278,9 @@ module _ (image : ImageValue) (handled : Type 0) (named : ℕ → Type 0) (live 
     kind_on kind.Finished e = (λ s. e.0 (some_run b a told_b h s), λ s. e.1 (some_stopped b a told_b h s))
     kind_on kind.Stopped e = (λ s. e.0 (some_run b a told_b h s), some_stopped a b told g e.1)
     kind_on kind.Deadlock e = still_on a b told g e
+    kind_on kind.Waiting e = e
     kind_on kind.Spinning e = e
+    kind_on kind.Looping e = e
     kind_on kind.OutOfSteps e = (some_run a b told g e.0, λ s. e.1 (still_on b a told_b h s))
 
   pub agreeing_end_alike : (a b : World) → TellsHandlers handled a → WorldsAgree named live asked a b → EndAlike image a b
