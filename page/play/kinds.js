@@ -3,9 +3,13 @@
 const isJudged = data.ends.some((end) => end.right !== null);
 const SIGNS = { right: "✓", plain: "•", found: "?", wrong: "!", broken: "!", deadlock: "∞", stopped: "×",
   spinning: "↻" };
+/** Ends that are right if all else is: those that wait or loop, a line of the expectations allows. */
+const MAY_BE_RIGHT = ["finished", "waiting", "looping"];
+/** Whether streams wait at an end, and none can go on. */
+const isStill = (end) => ["deadlock", "waiting"].includes(end?.kind);
 /** The kind of an end. Where nothing is judged, one whose shortest schedule has a finding is `found`. */
 function kindOf(end) {
-  if (end.kind !== "finished") return end.kind;
+  if (!MAY_BE_RIGHT.includes(end.kind)) return end.kind;
   if (end.right !== null) return end.right ? "right" : "wrong";
   return end.findings.length ? "found" : "plain";
 }
@@ -27,7 +31,7 @@ function describeEnds() {
     end.words = changedWords(w);
     end.tags = [];
     const running = names.map((name, k) => [name, k]).filter(([, k]) => runs(w, k));
-    end.waiting = end.kind === "deadlock" ? running.map(([name, k]) => [name, recordOf(w, k)[4]
+    end.waiting = isStill(end) ? running.map(([name, k]) => [name, recordOf(w, k)[4]
       ?? recordOf(w, k)[3]]) : [];
     end.stopped = names.flatMap((name, k) => {
       const [status, trap] = (content(w, k).status ?? "").split(" ");

@@ -68,7 +68,7 @@ _mta_lab_value() {
     *' --page' | *' --play' | 'page --out' | 'play --out') echo 'files .html' ;;
     'picture --out') echo 'files .svg' ;;
     'asm --out') echo 'files .image' ;;
-    *' --goal') echo 'words right wrong deadlock stopped spinning broken' ;;
+    *' --goal') echo 'words right wrong deadlock waiting stopped spinning looping broken' ;;
     'check '[0-9]*) echo 'files .asm .image .schedule .expect' ;;
     'fmt '[0-9]* | 'asm 1') echo 'files .asm' ;;
     'schedule 1') echo 'words rounds fair random' ;;

@@ -95,7 +95,7 @@ complete -c mta_lab -n '__fish_seen_subcommand_from picture' -l from -x -d 'the 
 complete -c mta_lab -n '__fish_seen_subcommand_from picture' -l to -x -d 'the last step that is drawn'
 complete -c mta_lab -n '__fish_seen_subcommand_from picture' -l out -r -k -a '(__fish_complete_suffix .svg)' -d 'the picture, FILE.svg'
 complete -c mta_lab -n '__fish_seen_subcommand_from play' -l states -x -d 'the most states of the page, 1 to 100000 [100000]'
-complete -c mta_lab -n '__fish_seen_subcommand_from play' -l goal -x -a 'right wrong deadlock stopped spinning broken' -d 'the first goal: right, wrong, deadlock, stopped, spinning, broken, or the number of an end [none]'
+complete -c mta_lab -n '__fish_seen_subcommand_from play' -l goal -x -a 'right wrong deadlock waiting stopped spinning looping broken' -d 'the first goal: right, wrong, deadlock, waiting, stopped, spinning, looping, broken, or the number of an end [none]'
 complete -c mta_lab -n '__fish_seen_subcommand_from gallery' -l exercises -x -a '(__fish_complete_directories)' -d 'where the exercises are [exercises]'
 complete -c mta_lab -n '__fish_seen_subcommand_from gallery' -l examples -x -a '(__fish_complete_directories)' -d 'where the examples are [examples]'
 complete -c mta_lab -n '__fish_seen_subcommand_from asm' -l out -r -k -a '(__fish_complete_suffix .image)' -d 'the image file [the source\'s name, with .image]'

@@ -30,10 +30,13 @@ spoken_at_end (expect.Compared a r b more) = record { one = range a a; other = r
 spoken_at_end (expect.Register p s r value) = no_words
 spoken_at_end expect.Finished = no_words
 spoken_at_end (expect.Stopped p s trap) = no_words
+spoken_at_end (expect.Waits p s first last) = no_words
+spoken_at_end expect.Loops = no_words
 
 abbrev pub spoken_in_form : ClaimForm → SpokenWords
 spoken_in_form (form.Word a t) = record { one = range a a; other = None }
-spoken_in_form (form.AtMost most ts first last) = no_words
+spoken_in_form (form.Compared a r b more) = record { one = range a a; other = range b b }
+spoken_in_form (form.Streams t gs) = no_words
 
 -- the words of which a claim speaks
 abbrev pub spoken_in_claim : Claim → SpokenWords

@@ -105,12 +105,14 @@ fn spoken_at_end(end: &Expectation) -> SpokenWords
             one: one_word(address),
             other: one_word(other),
         },
-        Expectation::Register { .. } | Expectation::Finished | Expectation::Stopped { .. } => {
-            SpokenWords {
-                one: None,
-                other: None,
-            }
-        }
+        Expectation::Register { .. }
+        | Expectation::Finished
+        | Expectation::Stopped { .. }
+        | Expectation::Waits { .. }
+        | Expectation::Loops => SpokenWords {
+            one: None,
+            other: None,
+        },
     }
 }
 
@@ -118,11 +120,20 @@ fn spoken_at_end(end: &Expectation) -> SpokenWords
 fn spoken_in_claim(claim: &Claim) -> SpokenWords
     ensures { result ≡ spoken_in_claim claim.now }
 {
-    let one = match &claim.form {
-        ClaimForm::Word { address, .. } => one_word(*address),
-        ClaimForm::AtMost { .. } => None,
-    };
-    SpokenWords { one, other: None }
+    match &claim.form {
+        ClaimForm::Word { address, .. } => SpokenWords {
+            one: one_word(*address),
+            other: None,
+        },
+        ClaimForm::Compared { address, other, .. } => SpokenWords {
+            one: one_word(*address),
+            other: one_word(*other),
+        },
+        ClaimForm::Streams { .. } => SpokenWords {
+            one: None,
+            other: None,
+        },
+    }
 }
 
 /// The word of a byte address.

@@ -1,2 +1,3 @@
 mod Breaking
+mod Counting
 mod Words

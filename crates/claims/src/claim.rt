@@ -1,5 +1,6 @@
 //! What can be claimed of the worlds that a program comes to.
 
+use expectations::Relation;
 use machine::processors::Step;
 
 /// A claim about the worlds that a program comes to.
@@ -32,17 +33,44 @@ pub enum ClaimForm {
         /// How it is.
         test: WordTest,
     },
-    /// At most so many of these streams run at places of a range. A stream that is named twice counts twice.
-    AtMost {
-        /// How many.
-        most: usize,
-        /// The streams.
-        streams: Vec<Step>,
-        /// The first program word of the range.
-        first: u32,
-        /// The last program word of the range.
-        last: u32,
+    /// The value of a word, beside that of another and a number.
+    Compared {
+        /// The word's byte address.
+        address: u64,
+        /// How its value stands to the other word's and the number, modulo 2^64.
+        relation: Relation,
+        /// The other word's byte address.
+        other: u64,
+        /// The number.
+        more: u64,
     },
+    /// So many of the streams of some groups, together, run at places of their groups' ranges.
+    Streams {
+        /// How many.
+        test: CountTest,
+        /// The groups.
+        groups: Vec<StreamGroup>,
+    },
+}
+
+/// Streams, and the range in which they count. A stream that is named twice counts twice.
+#[derive(Drop)]
+pub struct StreamGroup {
+    /// The streams.
+    pub streams: Vec<Step>,
+    /// The first program word of the range.
+    pub first: u32,
+    /// The last program word of the range.
+    pub last: u32,
+}
+
+/// How many there are.
+#[derive(Clone, Copy, Debug, PartialEq, Eq)]
+pub enum CountTest {
+    /// At most so many.
+    AtMost(usize),
+    /// At least so many.
+    AtLeast(usize),
 }
 
 /// How a word is.

@@ -1,13 +1,15 @@
 //! Whether a claim holds of the world of a machine.
 
-ghost use Rattle.std.specs.Prelude.{◌≡◌};
+ghost use Rattle.std.specs.Prelude.{◌≡◌, ◌≤◌, ◌^◌, ℕ, MatchOption};
 ghost use Rattle.std.specs.List.{count_by};
 ghost use Rattle.std.specs.Option.{option_copied};
 ghost use Rattle.machine.specs.Processor.Records.{is_running_status};
 ghost use Rattle.claims.specs.Holding.{holds, shows, form_holds, word_holds, is_so, is_less, stream_at};
-ghost use Rattle.claims.specs.Holding.{runs_at_places, count_at_places, holds_by, shown_by};
+ghost use Rattle.claims.specs.Holding.{runs_at_places, count_at_places, count_in_group, count_in_groups, counts_so};
+ghost use Rattle.claims.specs.Holding.{holds_by, shown_by};
 
-use crate::claim::{Claim, ClaimForm, NumberOrder, Scope, WordTest};
+use crate::claim::{Claim, ClaimForm, CountTest, NumberOrder, Scope, StreamGroup, WordTest};
+use expectations::{Expectation, is_met};
 use machine::Machine;
 use machine::processors::Step;
 use stream_core::{Status, Stream};
@@ -47,12 +49,23 @@ impl ClaimForm {
     {
         match self {
             ClaimForm::Word { address, test } => word_holds(machine.word(*address), *test),
-            ClaimForm::AtMost {
-                most,
-                streams,
-                first,
-                last,
-            } => count_at_places(machine, streams, *first, *last) <= *most,
+            ClaimForm::Compared {
+                address,
+                relation,
+                other,
+                more,
+            } => is_met(
+                machine,
+                &Expectation::Compared {
+                    address: *address,
+                    relation: *relation,
+                    other: *other,
+                    more: *more,
+                },
+            ),
+            ClaimForm::Streams { test, groups } => {
+                counts_so(*test, count_in_groups(machine, groups))
+            }
         }
     }
 }
@@ -88,6 +101,46 @@ fn is_less(order: NumberOrder, one: u64, other: u64) -> bool
         NumberOrder::Unsigned => one < other,
         NumberOrder::Signed => one.cast_signed() < other.cast_signed(),
     }
+}
+
+/// Whether a count is so. None is a count past all numbers of 64 bits.
+fn counts_so(test: CountTest, count: Option<usize>) -> bool
+    ensures { (n : ℕ) → MatchOption count (2 ^ 64 ≤ n) (λ k. k ≡ n) → result ≡ counts_so test n }
+{
+    match count {
+        Some(count) => match test {
+            CountTest::AtMost(most) => count <= most,
+            CountTest::AtLeast(least) => least <= count,
+        },
+        None => match test {
+            CountTest::AtMost(_) => false,
+            CountTest::AtLeast(_) => true,
+        },
+    }
+}
+
+/// How many of the streams of some groups run at places of their groups' ranges, together; None where that is no number of
+/// 64 bits.
+#[tactic(auto, using(crate::proofs::Counting::counted_more, crate::proofs::Counting::counted_within))]
+fn count_in_groups<const S: usize>(
+    machine: &Machine<'_, S>,
+    groups: &[StreamGroup],
+) -> Option<usize>
+    ensures { MatchOption result (2 ^ 64 ≤ count_in_groups machine.now.world groups.now)
+        (λ n. n ≡ count_in_groups machine.now.world groups.now) }
+{
+    let mut count: usize = 0;
+    for group in groups {
+        count = count.checked_add(count_in_group(machine, group))?;
+    }
+    Some(count)
+}
+
+/// How many of the streams of a group run at places of its range.
+fn count_in_group<const S: usize>(machine: &Machine<'_, S>, group: &StreamGroup) -> usize
+    ensures { result ≡ count_in_group machine.now.world group.now }
+{
+    count_at_places(machine, &group.streams, group.first, group.last)
 }
 
 /// How many of some streams run at places of a range.

@@ -7,6 +7,6 @@ mod judging;
 mod looking;
 mod missing;
 
-pub use claim::{Claim, ClaimForm, NumberOrder, Scope, WordTest};
+pub use claim::{Claim, ClaimForm, CountTest, NumberOrder, Scope, StreamGroup, WordTest};
 pub use looking::{places_looked_at, words_looked_at};
 pub use missing::Missing;

@@ -2,12 +2,13 @@
 
 ghost use Rattle.std.specs.Prelude.{◌≡◌, ◌≤◌, ℕ, false, slice_index_or, IsTrue, IfOk, OnOk};
 ghost use Rattle.std.specs.List.{Contains};
-ghost use Rattle.claims.specs.Looking.{form_looks_at, is_looked_at, form_looks_at_word, is_word_looked_at};
+ghost use Rattle.claims.specs.Looking.{is_in_range, is_in_groups, form_looks_at, is_looked_at, form_looks_at_word};
+ghost use Rattle.claims.specs.Looking.{is_word_looked_at};
 
-use crate::claim::{Claim, ClaimForm};
+use crate::claim::{Claim, ClaimForm, StreamGroup};
 use std::alloc::{AllocError, Global};
 
-/// At which places of a program some claims look: true at each place that the range of one of them has. Past the end of
+/// At which places of a program some claims look: true at each place that a range of one of them has. Past the end of
 /// the list they look at none, and where they speak of words alone it is empty.
 pub fn places_looked_at(alloc: Global, claims: &[Claim]) -> Result<Vec<bool>, AllocError>
     ensures { IfOk result (λ v. (k : ℕ) → slice_index_or v.items k false ≡ is_looked_at claims.now k) }
@@ -31,7 +32,7 @@ pub fn words_looked_at(alloc: Global, claims: &[Claim]) -> Result<Vec<u64>, Allo
     Ok(words)
 }
 
-/// Adds the word at which a form of claim looks, if it looks at one.
+/// Adds the words at which a form of claim looks.
 fn add_word(words: &mut Vec<u64>, form: &ClaimForm) -> Result<(), AllocError>
     ensures more { OnOk result ((a : ℕ) → Contains words.old.items a → Contains words.new.items a) }
     ensures added { OnOk result ((a : ℕ) → IsTrue (form_looks_at_word a form.now) → Contains words.new.items a) }
@@ -41,7 +42,12 @@ fn add_word(words: &mut Vec<u64>, form: &ClaimForm) -> Result<(), AllocError>
             words.push(*address)?;
             Ok(())
         }
-        ClaimForm::AtMost { .. } => Ok(()),
+        ClaimForm::Compared { address, other, .. } => {
+            words.push(*address)?;
+            words.push(*other)?;
+            Ok(())
+        }
+        ClaimForm::Streams { .. } => Ok(()),
     }
 }
 
@@ -56,14 +62,25 @@ fn end_of_ranges(claims: &[Claim]) -> usize
     end
 }
 
-/// The same of the range of one.
+/// The same of the ranges of one.
 fn end_of_range(form: &ClaimForm) -> usize
     ensures { (k : ℕ) → result ≤ k → form_looks_at k form.now ≡ false }
 {
     match form {
-        ClaimForm::Word { .. } => 0,
-        ClaimForm::AtMost { last, .. } => *last as usize + 1,
+        ClaimForm::Word { .. } | ClaimForm::Compared { .. } => 0,
+        ClaimForm::Streams { groups, .. } => end_of_groups(groups),
     }
+}
+
+/// The same of the ranges of some groups.
+fn end_of_groups(groups: &[StreamGroup]) -> usize
+    ensures { (k : ℕ) → result ≤ k → is_in_groups k groups.now ≡ false }
+{
+    let mut end = 0;
+    for group in groups {
+        end = (group.last as usize + 1).max(end);
+    }
+    end
 }
 
 /// Whether one of some claims looks at a place.
@@ -77,13 +94,30 @@ fn is_looked_at(claims: &[Claim], place: usize) -> bool
     )
 }
 
-/// Whether the range of a form of claim has a place.
+/// Whether one of the ranges of a form of claim has a place.
 fn form_looks_at(form: &ClaimForm, place: usize) -> bool
     ensures { result ≡ form_looks_at place form.now }
 {
     match form {
-        ClaimForm::Word { .. } => false,
-        ClaimForm::AtMost { first, last, .. } => *first as usize <= place
-            && place <= *last as usize,
+        ClaimForm::Word { .. } | ClaimForm::Compared { .. } => false,
+        ClaimForm::Streams { groups, .. } => is_in_groups(groups, place),
     }
+}
+
+/// Whether the range of one of some groups has a place.
+fn is_in_groups(groups: &[StreamGroup], place: usize) -> bool
+    ensures { result ≡ is_in_groups place groups.now }
+{
+    groups.iter().any(
+        |group: &StreamGroup| -> bool
+            ensures { result ≡ is_in_range place group.now }
+        { is_in_range(group, place) },
+    )
+}
+
+/// Whether the range of a group has a place.
+fn is_in_range(group: &StreamGroup, place: usize) -> bool
+    ensures { result ≡ is_in_range place group.now }
+{
+    group.first as usize <= place && place <= group.last as usize
 }

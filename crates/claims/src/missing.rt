@@ -1,9 +1,9 @@
 //! What a claim speaks of that a program does not have.
 
 ghost use Rattle.std.specs.Prelude.{◌≡◌, not, find};
-ghost use Rattle.claims.specs.Missing.{missing_in, has_word, has_stream, missing_of_range};
+ghost use Rattle.claims.specs.Missing.{missing_in, has_word, has_stream, missing_word, missing_of_range, missing_of_groups};
 
-use crate::claim::{Claim, ClaimForm};
+use crate::claim::{Claim, ClaimForm, StreamGroup};
 use image_file::Image;
 use machine::processors::Step;
 
@@ -19,22 +19,43 @@ pub enum Missing {
 }
 
 impl Claim {
-    /// What it speaks of that the machine of an image does not have; of several streams the first. None where it has
-    /// all.
+    /// What it speaks of that the machine of an image does not have; of several words, streams and ranges the first. None
+    /// where it has all.
     pub fn missing_in(&self, image: &Image) -> Option<Missing>
         ensures { result ≡ missing_in image.now self.now.form }
     {
         match &self.form {
-            ClaimForm::Word { address, .. } => {
-                if has_word(image, *address) {
-                    None
-                } else {
-                    Some(Missing::Word)
-                }
-            }
-            ClaimForm::AtMost { streams, last, .. } => missing_of_range(image, streams, *last),
+            ClaimForm::Word { address, .. } => missing_word(image, *address),
+            ClaimForm::Compared { address, other, .. } => match missing_word(image, *address) {
+                Some(missing) => Some(missing),
+                None => missing_word(image, *other),
+            },
+            ClaimForm::Streams { groups, .. } => missing_of_groups(image, groups),
         }
     }
+}
+
+/// Whether the word of a byte address is missing.
+fn missing_word(image: &Image, address: u64) -> Option<Missing>
+    ensures { result ≡ missing_word image.now address }
+{
+    if has_word(image, address) {
+        None
+    } else {
+        Some(Missing::Word)
+    }
+}
+
+/// What the first of some groups, of those that lack something, speaks of that an image does not have.
+fn missing_of_groups(image: &Image, groups: &[StreamGroup]) -> Option<Missing>
+    ensures { result ≡ missing_of_groups image.now groups.now }
+{
+    for group in groups {
+        if let Some(missing) = missing_of_range(image, &group.streams, group.last) {
+            return Some(missing);
+        }
+    }
+    None
 }
 
 /// The first of some streams that an image does not have, else whether a place is past its program.

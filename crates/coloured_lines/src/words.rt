@@ -24,7 +24,7 @@ enum WordPosition {
 struct ColouredWord(&'static str, Colour, WordPosition);
 
 /// The words that have one; of two that begin alike the longer one first.
-const WORDS: [ColouredWord; 28] = [
+const WORDS: [ColouredWord; 30] = [
     ColouredWord("error:", Colour::Bad, WordPosition::Head),
     ColouredWord("warning:", Colour::Doubtful, WordPosition::Head),
     ColouredWord("mta_lab:", Colour::Bad, WordPosition::Beginning),
@@ -32,6 +32,8 @@ const WORDS: [ColouredWord; 28] = [
     ColouredWord("done", Colour::Good, WordPosition::Column),
     ColouredWord("finished", Colour::Good, WordPosition::Column),
     ColouredWord("nobody runs", Colour::Good, WordPosition::Head),
+    ColouredWord("waiting", Colour::Good, WordPosition::Column),
+    ColouredWord("looping", Colour::Good, WordPosition::Column),
     ColouredWord("wrong", Colour::Bad, WordPosition::Column),
     ColouredWord("deadlock", Colour::Bad, WordPosition::Column),
     ColouredWord("stopped", Colour::Bad, WordPosition::Column),

@@ -41,12 +41,26 @@ is_deadlock (space_kind.End other) = false
 is_deadlock (space_kind.Broken claim) = false
 is_deadlock space_kind.Busy = false
 
+-- whether streams wait there as they may
+abbrev pub is_waiting : SpaceEndKind → Bool
+is_waiting (space_kind.End kind.Waiting) = true
+is_waiting (space_kind.End other) = false
+is_waiting (space_kind.Broken claim) = false
+is_waiting space_kind.Busy = false
+
 -- whether some stream runs forever
 abbrev pub is_spinning : SpaceEndKind → Bool
 is_spinning (space_kind.End kind.Spinning) = true
 is_spinning (space_kind.End other) = false
 is_spinning (space_kind.Broken claim) = false
 is_spinning space_kind.Busy = false
+
+-- whether some stream runs forever, and may
+abbrev pub is_looping : SpaceEndKind → Bool
+is_looping (space_kind.End kind.Looping) = true
+is_looping (space_kind.End other) = false
+is_looping (space_kind.Broken claim) = false
+is_looping space_kind.Busy = false
 
 -- whether an end of these is a goal, by what it is; a number says nothing of that
 abbrev pub is_goal : EndGoal → EndCriteria → List SpaceEnd → SpaceEnd → Bool
@@ -57,7 +71,9 @@ is_goal goal.Wrong c ends e = is_finished e.kind && is_no (verdict_of c ends e)
 is_goal goal.Finished c ends e = is_finished e.kind
 is_goal goal.Stopped c ends e = is_stopped e.kind
 is_goal goal.Deadlock c ends e = is_deadlock e.kind
+is_goal goal.Waiting c ends e = is_waiting e.kind
 is_goal goal.Spinning c ends e = is_spinning e.kind
+is_goal goal.Looping c ends e = is_looping e.kind
 is_goal goal.Broken c ends e = is_breaking e.kind
 
 -- the place of a number that counts from 1, among so many
@@ -77,5 +93,7 @@ place_of_goal goal.Wrong c ends = first_place goal.Wrong c ends
 place_of_goal goal.Finished c ends = first_place goal.Finished c ends
 place_of_goal goal.Stopped c ends = first_place goal.Stopped c ends
 place_of_goal goal.Deadlock c ends = first_place goal.Deadlock c ends
+place_of_goal goal.Waiting c ends = first_place goal.Waiting c ends
 place_of_goal goal.Spinning c ends = first_place goal.Spinning c ends
+place_of_goal goal.Looping c ends = first_place goal.Looping c ends
 place_of_goal goal.Broken c ends = first_place goal.Broken c ends

@@ -9,12 +9,14 @@ use Rattle.space_ends.specs.declared.end_values.SpaceEndKind.{SpaceEndKind}
 use Rattle.space_ends.specs.declared.end_values.SpaceEndKind.TheVariants as space_kind
 use Rattle.end_goals.specs.declared.right_ends.EndCriteria.{EndCriteria}
 
--- whether no stream runs at ends of this kind
+-- whether no stream runs at ends of this kind, or those that do may wait there or go on so
 abbrev pub is_resting : EndKind → Bool
 is_resting kind.Finished = true
 is_resting kind.Stopped = true
 is_resting kind.Deadlock = false
+is_resting kind.Waiting = true
 is_resting kind.Spinning = false
+is_resting kind.Looping = true
 is_resting kind.OutOfSteps = false
 
 -- whether an end of this kind is as expected, where no claim is looked at
@@ -46,7 +48,8 @@ is_right_kind ends e (space_kind.End k) = is_resting k && is_met k e && not (bre
 is_right_kind ends e (space_kind.Broken claim) = false
 is_right_kind ends e space_kind.Busy = false
 
--- Whether an end of these is right by itself: no stream runs, it is as expected, and its first world breaks no claim.
+-- Whether an end of these is right by itself: no stream runs, or those that do may wait or go on so, it is as expected, and
+-- its first world breaks no claim.
 abbrev pub is_right_end : List SpaceEnd → SpaceEnd → Bool
 is_right_end ends e = is_right_kind ends e e.kind
 

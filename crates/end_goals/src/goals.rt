@@ -4,20 +4,22 @@ ghost use Rattle.std.specs.Prelude.{◌≡◌, ◌==◌};
 ghost use Rattle.std.specs.List.{position};
 ghost use Rattle.end_goals.specs.Goals.{is_goal, place_of_goal, place_of_number, is_yes, is_no};
 ghost use Rattle.end_goals.specs.RightEnds.{is_breaking};
-ghost use Rattle.end_goals.specs.Goals.{is_finished, is_stopped, is_deadlock, is_spinning};
+ghost use Rattle.end_goals.specs.Goals.{is_finished, is_stopped, is_deadlock, is_waiting, is_spinning, is_looping};
 
 use crate::right_ends::{EndCriteria, is_breaking};
 use end_kinds::EndKind;
 use space_ends::{SpaceEnd, SpaceEndKind};
 
 /// The words for goals, but for numbers.
-const NAMED: [EndGoal; 7] = [
+const NAMED: [EndGoal; 9] = [
     EndGoal::Right,
     EndGoal::Wrong,
     EndGoal::Finished,
     EndGoal::Stopped,
     EndGoal::Deadlock,
+    EndGoal::Waiting,
     EndGoal::Spinning,
+    EndGoal::Looping,
     EndGoal::Broken,
 ];
 
@@ -36,8 +38,12 @@ pub enum EndGoal {
     Stopped,
     /// A deadlock.
     Deadlock,
+    /// An end at which streams wait as they may.
+    Waiting,
     /// Worlds in which some stream runs forever.
     Spinning,
+    /// The same, where the program may go on so.
+    Looping,
     /// Worlds that break a claim.
     Broken,
     /// A kind that no end is of.
@@ -62,7 +68,9 @@ impl EndGoal {
             EndGoal::Finished => word == EndKind::Finished.json_name(),
             EndGoal::Stopped => word == EndKind::Stopped.json_name(),
             EndGoal::Deadlock => word == EndKind::Deadlock.json_name(),
+            EndGoal::Waiting => word == EndKind::Waiting.json_name(),
             EndGoal::Spinning => word == EndKind::Spinning.json_name(),
+            EndGoal::Looping => word == EndKind::Looping.json_name(),
             EndGoal::Broken => word == SpaceEndKind::Busy.json_name(),
         }
     }
@@ -80,7 +88,9 @@ impl EndGoal {
             | EndGoal::Finished
             | EndGoal::Stopped
             | EndGoal::Deadlock
+            | EndGoal::Waiting
             | EndGoal::Spinning
+            | EndGoal::Looping
             | EndGoal::Broken => self.first_place(ends, criteria),
         }
     }
@@ -107,7 +117,9 @@ impl EndGoal {
             EndGoal::Finished => is_finished(end.kind),
             EndGoal::Stopped => is_stopped(end.kind),
             EndGoal::Deadlock => is_deadlock(end.kind),
+            EndGoal::Waiting => is_waiting(end.kind),
             EndGoal::Spinning => is_spinning(end.kind),
+            EndGoal::Looping => is_looping(end.kind),
             EndGoal::Broken => is_breaking(end.kind),
         }
     }
@@ -174,9 +186,23 @@ fn is_deadlock(kind: SpaceEndKind) -> bool
     matches!(kind, SpaceEndKind::End(EndKind::Deadlock))
 }
 
+/// Whether streams wait there as they may.
+fn is_waiting(kind: SpaceEndKind) -> bool
+    ensures { result ≡ is_waiting kind }
+{
+    matches!(kind, SpaceEndKind::End(EndKind::Waiting))
+}
+
 /// Whether some stream runs forever.
 fn is_spinning(kind: SpaceEndKind) -> bool
     ensures { result ≡ is_spinning kind }
 {
     matches!(kind, SpaceEndKind::End(EndKind::Spinning))
+}
+
+/// Whether some stream runs forever, and may.
+fn is_looping(kind: SpaceEndKind) -> bool
+    ensures { result ≡ is_looping kind }
+{
+    matches!(kind, SpaceEndKind::End(EndKind::Looping))
 }

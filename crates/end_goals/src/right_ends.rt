@@ -49,8 +49,8 @@ impl EndCriteria {
     }
 }
 
-/// Whether an end, which is one of these, is right by itself: no stream runs there, it is as expected, and the first of its
-/// worlds breaks no claim. A reader comes to it by many ways: worlds on them that break a claim are an end of their own.
+/// Whether an end, which is one of these, is right by itself: no stream runs there, or those that do may wait, or the program
+/// may go on so; it is as expected, and the first of its worlds breaks no claim. A reader comes to it by many ways: worlds on them that break a claim are an end of their own.
 pub fn is_right_end(end: &SpaceEnd, ends: &[SpaceEnd]) -> bool
     ensures { result ≡ is_right_end ends.now end.now }
 {
@@ -62,12 +62,12 @@ pub fn is_right_end(end: &SpaceEnd, ends: &[SpaceEnd]) -> bool
     }
 }
 
-/// Whether no stream runs at ends of this kind.
+/// Whether no stream runs at ends of this kind, or those that do may wait there or go on so.
 fn is_resting(kind: EndKind) -> bool
     ensures { result ≡ is_resting kind }
 {
     match kind {
-        EndKind::Finished | EndKind::Stopped => true,
+        EndKind::Finished | EndKind::Stopped | EndKind::Waiting | EndKind::Looping => true,
         EndKind::Deadlock | EndKind::Spinning | EndKind::OutOfSteps => false,
     }
 }

@@ -1,17 +1,36 @@
 -- When the end of a run is as expected.
-use Rattle.std.specs.Prelude.{Bool, true, false, not, ◌&&◌, ◌||◌, is_some}
+use Rattle.std.specs.Prelude.{Bool, true, false, not, ◌&&◌, ◌||◌, is_some, List}
+use Rattle.image_file.specs.ImageValue.{ImageValue}
+use Rattle.processor.specs.World.{World}
+use Rattle.waiting.specs.Stuck.{IsStandstill}
+use Rattle.end_kinds.specs.Ends.{IsKindOf}
 use Rattle.end_kinds.specs.Statuses.{status_of}
 use Rattle.end_kinds.specs.declared.kinds.EndKind.{EndKind}
 use Rattle.end_kinds.specs.declared.kinds.EndKind.TheVariants as kind
 use Rattle.end_kinds.specs.declared.statuses.Status.{Status}
+use Rattle.expectations.specs.declared.expectation.Expectation.{Expectation}
+use Rattle.schedule_verdicts.specs.RightEnds.{AreWaitsExpected}
 use Rattle.end_states.specs.declared.judgements.EndJudgement.{EndJudgement}
+
+-- The kind of an end beside what is expected, if no step follows: a world in which some stream runs and none can go on is a
+-- deadlock, but where each stream that runs may wait where it stands.
+abbrev pub IsJudgedKind : ImageValue → List Expectation → World → EndKind → Type 0
+IsJudgedKind image expected w kind.Finished = IsKindOf image w kind.Finished
+IsJudgedKind image expected w kind.Stopped = IsKindOf image w kind.Stopped
+IsJudgedKind image expected w kind.Deadlock = IsStandstill image w × (¬ AreWaitsExpected expected w)
+IsJudgedKind image expected w kind.Waiting = IsStandstill image w × AreWaitsExpected expected w
+IsJudgedKind image expected w kind.Spinning = ⊥
+IsJudgedKind image expected w kind.Looping = ⊥
+IsJudgedKind image expected w kind.OutOfSteps = IsKindOf image w kind.OutOfSteps
 
 -- whether ends of this kind are deadlocks
 abbrev pub is_deadlock : EndKind → Bool
 is_deadlock kind.Finished = false
 is_deadlock kind.Stopped = false
 is_deadlock kind.Deadlock = true
+is_deadlock kind.Waiting = false
 is_deadlock kind.Spinning = false
+is_deadlock kind.Looping = false
 is_deadlock kind.OutOfSteps = false
 
 -- whether an expectation is missed, or a claim is broken

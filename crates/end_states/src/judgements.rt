@@ -8,7 +8,7 @@ use end_kinds::{EndKind, Status, status_of};
 /// How the end of a run is judged. This is the one answer to whether an end is as expected, for all commands.
 #[derive(Clone, Copy, Debug, PartialEq, Eq)]
 pub struct EndJudgement {
-    /// The kind of the end.
+    /// The kind of the end, beside what is expected.
     pub kind: EndKind,
     /// The place of the first expectation that it misses, among all of ends.
     pub missed: Option<usize>,
@@ -55,6 +55,11 @@ fn is_deadlock(kind: EndKind) -> bool
 {
     match kind {
         EndKind::Deadlock => true,
-        EndKind::Finished | EndKind::Stopped | EndKind::Spinning | EndKind::OutOfSteps => false,
+        EndKind::Finished
+        | EndKind::Stopped
+        | EndKind::Waiting
+        | EndKind::Spinning
+        | EndKind::Looping
+        | EndKind::OutOfSteps => false,
     }
 }

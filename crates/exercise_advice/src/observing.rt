@@ -139,9 +139,11 @@ fn push_words_of(
             push_missed_word(seen, address)?;
             push_missed_word(seen, other)
         }
-        Expectation::Register { .. } | Expectation::Finished | Expectation::Stopped { .. } => {
-            Ok(seen.push(Observation::of(ObservationKind::Missed))?)
-        }
+        Expectation::Register { .. }
+        | Expectation::Finished
+        | Expectation::Stopped { .. }
+        | Expectation::Waits { .. }
+        | Expectation::Loops => Ok(seen.push(Observation::of(ObservationKind::Missed))?),
     }
 }
 

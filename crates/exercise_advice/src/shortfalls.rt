@@ -124,8 +124,10 @@ fn found_at<const S: usize>(machine: &Machine<'_, S>, expectation: Expectation) 
         Expectation::Sum { first, last, .. } => sum_of(machine, first, last),
         Expectation::Compared { address, other, .. } => values_of(machine, address, other),
         Expectation::Register { p, s, number, .. } => register_of(machine, p, s, number),
-        Expectation::Finished => first_left(machine),
-        Expectation::Stopped { p, s, .. } => stream_at(machine, Step { p, s }),
+        Expectation::Finished | Expectation::Loops => first_left(machine),
+        Expectation::Stopped { p, s, .. } | Expectation::Waits { p, s, .. } => {
+            stream_at(machine, Step { p, s })
+        }
     }
 }
 

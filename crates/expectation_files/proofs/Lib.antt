@@ -1,4 +1,5 @@
 mod WordCuts
+mod WordCounts
 mod Joined
 mod TextRead
 mod Numbered

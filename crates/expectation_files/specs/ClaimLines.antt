@@ -1,12 +1,14 @@
 -- What a line claims of the worlds that a program comes to.
 use Rattle.std.specs.Prelude.{ℕ, ◌+◌, ◌-◌, ◌^◌, ◌==◌, nat_lt, Bool, true, false, ◌&&◌, ◌||◌, if◌then◌else◌, List, [], ◌∷◌, ◌++◌}
-use Rattle.std.specs.Prelude.{length, slice_index, drop, codes, Option, Some, None, Result, Ok, Err}
+use Rattle.std.specs.Prelude.{length, slice_index, take, drop, codes, Option, Some, None, Result, Ok, Err}
 use Rattle.std.specs.List.{list_any}
-use Rattle.std.specs.Option.{option_and_then}
+use Rattle.std.specs.Option.{option_map, option_and_then}
 use Rattle.std.specs.Str.{bytes_eq}
 use Rattle.image_file.specs.ImageValue.{ImageValue}
 use Rattle.processor.specs.declared.steps.Step.{Step}
 use Rattle.claims.specs.Missing.{has_word, has_stream}
+use Rattle.claims.specs.declared.claim.CountTest.{CountTest}
+use Rattle.claims.specs.declared.claim.CountTest.TheVariants as count
 use Rattle.claims.specs.declared.claim.NumberOrder.{NumberOrder}
 use Rattle.claims.specs.declared.claim.NumberOrder.TheVariants.{Unsigned, Signed}
 use Rattle.claims.specs.declared.claim.Scope.{Scope}
@@ -14,20 +16,30 @@ use Rattle.claims.specs.declared.claim.WordTest.{WordTest}
 use Rattle.claims.specs.declared.claim.WordTest.TheVariants as test
 use Rattle.expectations.specs.declared.expectation.FullEmpty.{FullEmpty}
 use Rattle.expectations.specs.declared.expectation.FullEmpty.TheVariants.{Full, Empty}
+use Rattle.expectations.specs.declared.expectation.Relation.{Relation}
 use Rattle.expectation_files.specs.Values.{number_to, value_named, count_named, state_named, stream_named}
 use Rattle.expectation_files.specs.Addresses.{Names, PlacesSaid, address_said, places_said}
-use Rattle.expectation_files.specs.WordLines.{at}
+use Rattle.expectation_files.specs.WordLines.{at, ComparedSaid, compared_said}
+use Rattle.expectation_files.specs.declared.compared_words.ComparingLine.{ComparingLine}
 use Rattle.expectation_files.specs.declared.faults.LineFault.{LineFault}
 use Rattle.expectation_files.specs.declared.faults.LineFaultKind.{LineFaultKind}
 use Rattle.expectation_files.specs.declared.faults.LineFaultKind.TheVariants as fault
 use Rattle.expectation_files.specs.declared.faults.LineForm.TheVariants as form
 
--- what holds of a world or not: a word is so, or at most so many of these streams run at places of a range
+-- streams, as a list, and the range in which they count
+pub record GroupValue : Type 0 where
+  pub streams : List Step
+  pub first : ℕ
+  pub last : ℕ
+
+-- what holds of a world or not: a word is so, two words stand so to each other, or so many of the streams of some groups run
+-- at places of their ranges
 pub data ClaimFormValue : Type 0 where
   OfWord : ℕ → WordTest → ClaimFormValue
-  OfStreams : ℕ → List Step → ℕ → ℕ → ClaimFormValue
+  OfCompared : ℕ → Relation → ℕ → ℕ → ClaimFormValue
+  OfStreams : CountTest → List GroupValue → ClaimFormValue
 
--- a claim, with its streams as a list
+-- a claim, with its groups as a list
 pub record ClaimValue : Type 0 where
   pub scope : Scope
   pub form : ClaimFormValue
@@ -113,16 +125,35 @@ word_tested i (Err kind) t = at 2 kind
 word_tested i (Ok a) (Err f) = Err f
 word_tested i (Ok a) (Ok t) = if has_word i a then Ok (OfWord a t) else at 2 fault.MissingWord
 
--- ADDRESS STATE, ADDRESS RELATION NUMBER, ADDRESS RELATION NUMBER signed
+abbrev pub signed_claimed : Names → ImageValue → List ℕ → List ℕ → List ℕ → List ℕ → List (List ℕ) → FormSaid
+signed_claimed names i a r v s [] = word_tested i (address_said names a) (test_signed r v s)
+signed_claimed names i a r v s (o ∷ os) = no_claim 0
+
+-- word 2 of a claim about two words is the one's address
+abbrev pub claimed_words : ComparingLine
+claimed_words = record { form = form.Claim; first = 2 }
+
+-- two words that the image has; word 5 of the line is the other's address
+abbrev pub words_compared : ImageValue → ComparedSaid → FormSaid
+words_compared i (Err f) = Err f
+words_compared i (Ok c) =
+    if has_word i c.address then (if has_word i c.other then Ok (OfCompared c.address c.relation c.other c.more)
+    else at 5 fault.MissingWord) else at 2 fault.MissingWord
+
+-- ADDRESS STATE, ADDRESS RELATION NUMBER, ADDRESS RELATION NUMBER signed, or ADDRESS RELATION word ADDRESS and what may stand
+-- behind it
 unfoldable pub word_claimed : Names → ImageValue → List (List ℕ) → FormSaid
 word_claimed names i (a ∷ s ∷ []) = word_tested i (address_said names a) (test_of_state (state_named s))
 word_claimed names i (a ∷ r ∷ v ∷ []) = word_tested i (address_said names a) (test_plain r v)
-word_claimed names i (a ∷ r ∷ v ∷ s ∷ []) = word_tested i (address_said names a) (test_signed r v s)
+word_claimed names i (a ∷ r ∷ v ∷ s ∷ os) =
+    if bytes_eq v (codes "word") then words_compared i (compared_said claimed_words names a r s os)
+    else signed_claimed names i a r v s os
 word_claimed names i _ = no_claim 0
 
--- Streams up to the word `in`.
+-- Groups of streams: the streams, the word `in`, and the range in which they count. A comma at the end of the range's word has
+-- another group behind it.
 
--- the streams, and the words behind `in`
+-- streams, and the words behind the word that ends them
 pub record StreamsSaid : Type 0 where
   pub streams : List Step
   pub behind : List (List ℕ)
@@ -131,44 +162,64 @@ pub record StreamsSaid : Type 0 where
 abbrev pub is_among : List Step → Step → Bool
 is_among ts t = list_any (λ (u : Step). u.p == t.p && u.s == t.s) ts
 
--- the stream that the word behind these streams names, which the image has, and which is none of them; the first stream is
--- word 5 of its line
-abbrev pub next_stream : ImageValue → List Step → Option Step → Result Step LineFault
-next_stream i before None = at (5 + length before) fault.Stream
-next_stream i before (Some t) =
-    if has_stream i t then (if is_among before t then at (5 + length before) fault.Twice else Ok t)
-    else at (5 + length before) fault.MissingStream
+-- the stream that the word of this number names, which the image has, and which is none of those of its group before it
+abbrev pub next_stream : ImageValue → ℕ → List Step → Option Step → Result Step LineFault
+next_stream i k before None = at k fault.Stream
+next_stream i k before (Some t) =
+    if has_stream i t then (if is_among before t then at k fault.Twice else Ok t) else at k fault.MissingStream
 
--- the streams of words, behind those before them
-abbrev pub streams_said : ImageValue → List Step → List (List ℕ) → Result StreamsSaid LineFault
-streams_said i before [] = no_claim 1
-streams_said i before (w ∷ ws) =
-    if bytes_eq w (codes "in") then Ok (record { streams = before; behind = ws })
-    else and_then (next_stream i before (stream_named w)) (λ t. streams_said i (before ++ t ∷ []) ws)
+abbrev pub group_in : ℕ → List Step → PlacesSaid → Result GroupValue LineFault
+group_in k ts (Err kind) = at k kind
+group_in k ts (Ok r) = Ok (record { streams = ts; first = r.first; last = r.last })
 
-abbrev pub in_places : ℕ → List Step → ℕ → PlacesSaid → FormSaid
-in_places most ts k (Err kind) = at k kind
-in_places most ts k (Ok r) = Ok (OfStreams most ts r.first r.last)
+-- one stream at least, and the range, which is the word of this number
+abbrev pub group_of : Names → ImageValue → ℕ → List Step → List ℕ → Result GroupValue LineFault
+group_of names i k [] r = no_claim 1
+group_of names i k (t ∷ ts) r = group_in k (t ∷ ts) (places_said names (length i.program) r)
 
--- one stream at least, and the range
-abbrev pub streams_at : Names → ImageValue → ℕ → List Step → List (List ℕ) → FormSaid
-streams_at names i most [] ws = no_claim 1
-streams_at names i most (t ∷ ts) (r ∷ []) =
-    in_places most (t ∷ ts) (6 + length (t ∷ ts)) (places_said names (length i.program) r)
-streams_at names i most (t ∷ ts) _ = no_claim 1
+-- whether the last byte of a word is a comma
+abbrev pub ends_with_comma : List ℕ → Bool
+ends_with_comma w = nat_lt 0 (length w) && slice_index w (length w - 1) == 44
 
-abbrev pub streams_in : Names → ImageValue → ℕ → StreamsSaid → FormSaid
-streams_in names i most said = streams_at names i most said.streams said.behind
+abbrev pub without_comma : List ℕ → List ℕ
+without_comma w = take (length w - 1) w
 
-abbrev pub at_most_of : Names → ImageValue → Option ℕ → List (List ℕ) → FormSaid
-at_most_of names i None ws = at 3 fault.Count
-at_most_of names i (Some most) ws = and_then (streams_said i [] ws) (streams_in names i most)
+-- the last group, behind which nothing stands
+abbrev pub last_group : List GroupValue → List (List ℕ) → Result GroupValue LineFault → Result (List GroupValue) LineFault
+last_group gs (w ∷ ws) g = no_claim 1
+last_group gs [] (Err f) = Err f
+last_group gs [] (Ok g) = Ok (gs ++ g ∷ [])
 
--- most N of STREAM .. in RANGE
+-- the groups of words, from the word of this number on: behind those before them, and streams of a group under way, whose
+-- range comes next or not
+abbrev pub groups_said : Names → ImageValue → ℕ → List GroupValue → List Step → Bool → List (List ℕ) → Result (List GroupValue) LineFault
+groups_said names i k gs ts ranged [] = no_claim 1
+groups_said names i k gs ts false (w ∷ ws) =
+    if bytes_eq w (codes "in") then groups_said names i (k + 1) gs ts true ws
+    else and_then (next_stream i k ts (stream_named w)) (λ t. groups_said names i (k + 1) gs (ts ++ t ∷ []) false ws)
+groups_said names i k gs ts true (w ∷ ws) =
+    if ends_with_comma w
+    then and_then (group_of names i k ts (without_comma w)) (λ g. groups_said names i (k + 1) (gs ++ g ∷ []) [] false ws)
+    else last_group gs ws (group_of names i k ts w)
+
+abbrev pub streams_in : CountTest → Result (List GroupValue) LineFault → FormSaid
+streams_in t (Err f) = Err f
+streams_in t (Ok gs) = Ok (OfStreams t gs)
+
+-- so many of the streams of groups; the first stream is word 5 of its line
+abbrev pub counted : Names → ImageValue → Option CountTest → List (List ℕ) → FormSaid
+counted names i None ws = at 3 fault.Count
+counted names i (Some t) ws = streams_in t (groups_said names i 5 [] [] false ws)
+
+abbrev pub counted_of : Names → ImageValue → List ℕ → Option CountTest → List (List ℕ) → FormSaid
+counted_of names i o t ws = if bytes_eq o (codes "of") then counted names i t ws else no_claim 4
+
+-- most N of GROUPS, or least N of GROUPS
 unfoldable pub streams_claimed : Names → ImageValue → List (List ℕ) → FormSaid
 streams_claimed names i (m ∷ n ∷ o ∷ ws) =
-    if bytes_eq m (codes "most") then (if bytes_eq o (codes "of") then at_most_of names i (count_named n) ws
-    else no_claim 4) else no_claim 2
+    if bytes_eq m (codes "most") then counted_of names i o (option_map (λ k. count.AtMost k) (count_named n)) ws
+    else (if bytes_eq m (codes "least") then counted_of names i o (option_map (λ k. count.AtLeast k) (count_named n)) ws
+    else no_claim 2)
 streams_claimed names i _ = no_claim 1
 
 -- What is claimed.

@@ -1,6 +1,10 @@
--- What a line about streams expects of the end of a run.
-use Rattle.std.specs.Prelude.{ℕ, List, [], ◌∷◌, Option, Some, None, Ok}
+-- What a line about streams expects of the end of a run, or allows there.
+use Rattle.std.specs.Prelude.{ℕ, if◌then◌else◌, List, [], ◌∷◌, length, codes, Option, Some, None, Ok, Err}
+use Rattle.std.specs.Str.{bytes_eq}
+use Rattle.image_file.specs.ImageValue.{ImageValue}
+use Rattle.claims.specs.Missing.{has_stream}
 use Rattle.expectation_files.specs.Values.{stream_named, register_named, value_named, trap_named}
+use Rattle.expectation_files.specs.Addresses.{Names, PlacesSaid, places_said}
 use Rattle.expectation_files.specs.WordLines.{Said, at}
 use Rattle.expectations.specs.declared.expectation.Expectation.TheVariants as expect
 use Rattle.expectation_files.specs.declared.faults.LineFaultKind.TheVariants as fault
@@ -32,3 +36,24 @@ finished_said _ = at 0 (fault.Form form.Finished)
 abbrev pub stopped_said : List (List ℕ) → Said
 stopped_said (n ∷ t ∷ []) = stopped_of (stream_named n) (trap_named t)
 stopped_said _ = at 0 (fault.Form form.Stopped)
+
+abbrev pub waits_in : Step → PlacesSaid → Said
+waits_in n (Err kind) = at 3 kind
+waits_in n (Ok r) = Ok (expect.Waits n.p n.s r.first r.last)
+
+-- a stream that the image has, at program words of a range
+abbrev pub waits_of : ImageValue → Option Step → PlacesSaid → Said
+waits_of i None r = at 1 fault.Stream
+waits_of i (Some n) r = if has_stream i n then waits_in n r else at 1 fault.MissingStream
+
+-- STREAM in RANGE
+abbrev pub waits_said : Names → ImageValue → List (List ℕ) → Said
+waits_said names i (n ∷ w ∷ r ∷ []) =
+    if bytes_eq w (codes "in") then waits_of i (stream_named n) (places_said names (length i.program) r)
+    else at 2 (fault.Form form.Waits)
+waits_said names i _ = at 0 (fault.Form form.Waits)
+
+-- nothing
+abbrev pub loops_said : List (List ℕ) → Said
+loops_said [] = Ok expect.Loops
+loops_said _ = at 0 (fault.Form form.Loops)

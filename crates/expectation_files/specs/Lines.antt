@@ -9,7 +9,7 @@ use Rattle.work_rules.specs.declared.work_rule.WorkRule.{WorkRule}
 use Rattle.expectation_files.specs.Words.{words_on}
 use Rattle.expectation_files.specs.Addresses.{Names}
 use Rattle.expectation_files.specs.WordLines.{Said, at, word_said, words_said, sum_said}
-use Rattle.expectation_files.specs.EndLines.{register_said, finished_said, stopped_said}
+use Rattle.expectation_files.specs.EndLines.{register_said, finished_said, stopped_said, waits_said, loops_said}
 use Rattle.expectation_files.specs.ClaimLines.{ClaimValue, claim_said}
 use Rattle.expectation_files.specs.RuleLines.{RulesSaid, entries_said, most_words_said, operations_said}
 use Rattle.expectation_files.specs.WorkLines.{WorkSaid, each_said, least_said}
@@ -20,7 +20,7 @@ use Rattle.expectation_files.specs.declared.faults.LineFault.{LineFault}
 use Rattle.expectation_files.specs.declared.faults.LineFaultKind.TheVariants as fault
 use Rattle.expectation_files.specs.declared.rule_lines.OperationVerb.TheVariants.{Forbid, Require}
 
--- what a line says: nothing; what the end of a run has to be; a claim about worlds; rules for the program; who does the
+-- what a line says: nothing; what the end of a run has to be, or may be; a claim about worlds; rules for the program; who does the
 -- work in a run; that no stream ever loops alone; that none can wait forever; how the case counts to which the file belongs
 pub data Meaning : Type 0 where
   Nothing : Meaning
@@ -100,6 +100,13 @@ claim_named names i name os =
     else (if bytes_eq name (codes "some") then claim_of (claim_said names i Once os)
     else work_named names name os))
 
+-- what may be at an end, or else a claim
+abbrev pub allowance_named : Names → ImageValue → List ℕ → List (List ℕ) → MeaningSaid
+allowance_named names i name os =
+    if bytes_eq name (codes "waits") then end_of (waits_said names i os)
+    else (if bytes_eq name (codes "loops") then end_of (loops_said os)
+    else claim_named names i name os)
+
 abbrev pub meaning_named : Names → ImageValue → List ℕ → List (List ℕ) → MeaningSaid
 meaning_named names i name os =
     if bytes_eq name (codes "word") then end_of (word_said names os)
@@ -108,7 +115,7 @@ meaning_named names i name os =
     else (if bytes_eq name (codes "register") then end_of (register_said os)
     else (if bytes_eq name (codes "finished") then end_of (finished_said os)
     else (if bytes_eq name (codes "stopped") then end_of (stopped_said os)
-    else claim_named names i name os)))))
+    else allowance_named names i name os)))))
 
 abbrev pub words_meaning : Names → ImageValue → List (List ℕ) → MeaningSaid
 words_meaning names i [] = Ok Nothing

@@ -5,8 +5,9 @@ use Rattle.expectation_files.specs.declared.addresses.KnownNames.{KnownNames}
 use Rattle.claims.specs.declared.claim.Claim.{Claim}
 use Rattle.claims.specs.declared.claim.ClaimForm.{ClaimForm}
 use Rattle.claims.specs.declared.claim.ClaimForm.TheVariants as form
+use Rattle.claims.specs.declared.claim.StreamGroup.{StreamGroup}
 use Rattle.expectation_files.specs.Addresses.{Names}
-use Rattle.expectation_files.specs.ClaimLines.{ClaimValue, ClaimFormValue, OfWord, OfStreams}
+use Rattle.expectation_files.specs.ClaimLines.{ClaimValue, ClaimFormValue, GroupValue, OfWord, OfCompared, OfStreams}
 use Rattle.expectation_files.specs.Lines.{Meaning, Nothing, End, Claimed, Rules, Work, NeverBusy, NeverStarved, Marked}
 use Rattle.expectation_files.specs.Files.{RequirementsValue}
 use Rattle.expectation_files.specs.declared.lines.LineMeaning.{LineMeaning}
@@ -18,9 +19,13 @@ use Rattle.expectation_files.specs.declared.requirements.WrittenLine.{WrittenLin
 abbrev pub names_in : KnownNames → Names
 names_in names = record { word_names = data_names_seen names.words.now; labels = labels_seen names.labels.now }
 
+abbrev pub group_seen : StreamGroup → GroupValue
+group_seen g = record { streams = g.streams.items; first = g.first; last = g.last }
+
 abbrev pub form_seen : ClaimForm → ClaimFormValue
 form_seen (form.Word a t) = OfWord a t
-form_seen (form.AtMost most ts first last) = OfStreams most ts.items first last
+form_seen (form.Compared a r b more) = OfCompared a r b more
+form_seen (form.Streams t gs) = OfStreams t (map group_seen gs.items)
 
 abbrev pub claim_seen : Claim → ClaimValue
 claim_seen c = record { scope = c.scope; form = form_seen c.form }

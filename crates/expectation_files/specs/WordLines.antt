@@ -1,5 +1,5 @@
 -- What a line about words expects. The words of a line count from 0; the first one is its name.
-use Rattle.std.specs.Prelude.{ℕ, false, true, if◌then◌else◌, List, [], ◌∷◌, codes, Option, Some, None, Result, Ok, Err}
+use Rattle.std.specs.Prelude.{ℕ, ◌+◌, false, true, if◌then◌else◌, List, [], ◌∷◌, codes, Option, Some, None, Result, Ok, Err}
 use Rattle.std.specs.Str.{bytes_eq}
 use Rattle.expectation_files.specs.Values.{relation_named, value_named, state_named}
 use Rattle.expectation_files.specs.Addresses.{Names, RangeSaid, address_said, range_said}
@@ -7,6 +7,8 @@ use Rattle.expectations.specs.declared.expectation.Expectation.{Expectation}
 use Rattle.expectations.specs.declared.expectation.Expectation.TheVariants as expect
 use Rattle.expectations.specs.declared.expectation.FullEmpty.{FullEmpty}
 use Rattle.expectations.specs.declared.expectation.Relation.{Relation}
+use Rattle.expectation_files.specs.declared.compared_words.ComparedWords.{ComparedWords}
+use Rattle.expectation_files.specs.declared.compared_words.ComparingLine.{ComparingLine}
 use Rattle.expectation_files.specs.declared.faults.LineFault.{LineFault}
 use Rattle.expectation_files.specs.declared.faults.LineFaultKind.{LineFaultKind}
 use Rattle.expectation_files.specs.declared.faults.LineFaultKind.TheVariants as fault
@@ -36,12 +38,20 @@ sum_of_range (Err kind) v = at 1 kind
 sum_of_range (Ok r) None = at 2 fault.Number
 sum_of_range (Ok r) (Some v) = Ok (expect.Sum r.first r.last v)
 
-abbrev pub compared_of : Option Relation → Result ℕ LineFaultKind → Result ℕ LineFaultKind → Option ℕ → Said
-compared_of None a b more = at 2 (fault.Form form.Word)
-compared_of (Some r) (Err kind) b more = at 1 kind
-compared_of (Some r) (Ok a) (Err kind) more = at 4 kind
-compared_of (Some r) (Ok a) (Ok b) None = at 6 fault.Number
-compared_of (Some r) (Ok a) (Ok b) (Some more) = Ok (expect.Compared a r b more)
+abbrev pub ComparedSaid : Type 0
+ComparedSaid = Result ComparedWords LineFault
+
+-- two words, and how the one stands to the other and a number: in a line of this form, from the word of this number on
+abbrev pub compared_of : ComparingLine → Option Relation → Result ℕ LineFaultKind → Result ℕ LineFaultKind → Option ℕ → ComparedSaid
+compared_of l None a b more = at (l.first + 1) (fault.Form l.form)
+compared_of l (Some r) (Err kind) b more = at l.first kind
+compared_of l (Some r) (Ok a) (Err kind) more = at (l.first + 3) kind
+compared_of l (Some r) (Ok a) (Ok b) None = at (l.first + 5) fault.Number
+compared_of l (Some r) (Ok a) (Ok b) (Some more) = Ok (record { address = a; relation = r; other = b; more = more })
+
+abbrev pub expected_of : ComparedSaid → Said
+expected_of (Err f) = Err f
+expected_of (Ok c) = Ok (expect.Compared c.address c.relation c.other c.more)
 
 -- The operands of each form.
 
@@ -53,30 +63,35 @@ word_in_state names a v None = no_word_form 3
 word_in_state names a v (Some state) = word_of (address_said names a) (value_named v) (Some state)
 
 -- nothing, or + NUMBER, each perhaps with signed behind it
-abbrev pub compared_said : Names → List ℕ → List ℕ → List ℕ → List (List ℕ) → Said
-compared_said names a r b [] =
-    compared_of (relation_named r false) (address_said names a) (address_said names b) (Some 0)
-compared_said names a r b (s ∷ []) =
+abbrev pub compared_said : ComparingLine → Names → List ℕ → List ℕ → List ℕ → List (List ℕ) → ComparedSaid
+compared_said l names a r b [] =
+    compared_of l (relation_named r false) (address_said names a) (address_said names b) (Some 0)
+compared_said l names a r b (s ∷ []) =
     if bytes_eq s (codes "signed")
-    then compared_of (relation_named r true) (address_said names a) (address_said names b) (Some 0)
-    else no_word_form 5
-compared_said names a r b (p ∷ n ∷ []) =
+    then compared_of l (relation_named r true) (address_said names a) (address_said names b) (Some 0)
+    else at (l.first + 4) (fault.Form l.form)
+compared_said l names a r b (p ∷ n ∷ []) =
     if bytes_eq p (codes "+")
-    then compared_of (relation_named r false) (address_said names a) (address_said names b) (value_named n)
-    else no_word_form 5
-compared_said names a r b (p ∷ n ∷ s ∷ []) =
+    then compared_of l (relation_named r false) (address_said names a) (address_said names b) (value_named n)
+    else at (l.first + 4) (fault.Form l.form)
+compared_said l names a r b (p ∷ n ∷ s ∷ []) =
     if bytes_eq p (codes "+")
     then (if bytes_eq s (codes "signed")
-    then compared_of (relation_named r true) (address_said names a) (address_said names b) (value_named n)
-    else no_word_form 7)
-    else no_word_form 5
-compared_said names a r b (p ∷ n ∷ s ∷ o ∷ os) = no_word_form 0
+    then compared_of l (relation_named r true) (address_said names a) (address_said names b) (value_named n)
+    else at (l.first + 6) (fault.Form l.form))
+    else at (l.first + 4) (fault.Form l.form)
+compared_said l names a r b (p ∷ n ∷ s ∷ o ∷ os) = at 0 (fault.Form l.form)
+
+-- word 1 of a line about two words is the one's address
+abbrev pub two_words : ComparingLine
+two_words = record { form = form.Word; first = 1 }
 
 -- ADDRESS VALUE, or ADDRESS VALUE STATE, or ADDRESS RELATION word ADDRESS and what may stand behind it
 abbrev pub word_said : Names → List (List ℕ) → Said
 word_said names (a ∷ v ∷ []) = word_of (address_said names a) (value_named v) None
 word_said names (a ∷ v ∷ s ∷ []) = word_in_state names a v (state_named s)
-word_said names (a ∷ r ∷ w ∷ b ∷ os) = if bytes_eq w (codes "word") then compared_said names a r b os else no_word_form 3
+word_said names (a ∷ r ∷ w ∷ b ∷ os) =
+    if bytes_eq w (codes "word") then expected_of (compared_said two_words names a r b os) else no_word_form 3
 word_said names _ = no_word_form 0
 
 abbrev pub words_in_state : Names → List ℕ → List ℕ → Option FullEmpty → Said

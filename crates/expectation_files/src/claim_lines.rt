@@ -5,6 +5,7 @@ ghost use Rattle.claims.specs.Missing.{has_word};
 ghost use Rattle.expectation_files.specs.Words.{words_of};
 ghost use Rattle.expectation_files.specs.Addresses.{address_said};
 ghost use Rattle.expectation_files.specs.ClaimLines.{claim_said, form_claimed, word_claimed, word_tested};
+ghost use Rattle.expectation_files.specs.ClaimLines.{words_compared};
 ghost use Rattle.expectation_files.specs.OperandsSeen.{AreOperands};
 ghost use Rattle.expectation_files.specs.Seen.{names_in, form_seen, claim_seen};
 ghost use Rattle.expectation_files.specs.declared.faults.Unread.TheVariants as unread;
@@ -13,12 +14,19 @@ ghost use Rattle.expectation_files.specs.declared.faults.LineFault.{LineFault};
 use crate::addresses::{KnownNames, address_said};
 use crate::claim_streams::read_streams;
 use crate::claim_tests::{CLAIM, test_of_state, test_plain, test_signed};
-use crate::faults::{LineFault, LineFaultKind, Unread};
+use crate::compared_words::{ComparedWords, ComparingLine, read_compared};
+use crate::faults::{LineFault, LineFaultKind, LineForm, Unread};
 use crate::values::state_named;
 use crate::words::{Operands, next_word, read_operands};
 use claims::{Claim, ClaimForm, Scope, WordTest};
 use image_file::Image;
 use std::alloc::Global;
+
+/// Claims about two words.
+const TWO_WORDS: ComparingLine = ComparingLine {
+    form: LineForm::Claim,
+    first: 2,
+};
 
 /// The claim of this scope that the words after it say.
 #[tactic(auto, unfolding(crate::specs::ClaimLines::claim_said))]
@@ -66,7 +74,8 @@ fn read_form(
     Err(Unread::Fault(LineFault::at(1, CLAIM)))
 }
 
-/// `ADDRESS STATE`, `ADDRESS RELATION NUMBER`, or `ADDRESS RELATION NUMBER signed`.
+/// `ADDRESS STATE`, `ADDRESS RELATION NUMBER`, `ADDRESS RELATION NUMBER signed`, or `ADDRESS RELATION word ADDRESS` and what
+/// may stand after it.
 #[tactic(auto, unfolding(crate::specs::ClaimLines::word_claimed))]
 fn read_word(
     names: KnownNames<'_, '_, '_>,
@@ -88,6 +97,11 @@ fn read_word(
             word_tested(names, image, address, test)
         }
         Operands::More(address, relation, number, sign, rest) => {
+            if number == b"word".as_slice() {
+                let rest = read_operands(rest);
+                let compared = read_compared(TWO_WORDS, names, address, relation, sign, &rest)?;
+                return words_compared(image, compared);
+            }
             if next_word(rest).is_some() {
                 return Err(LineFault::at(0, CLAIM));
             }
@@ -118,6 +132,25 @@ fn word_tested(
     } else {
         Err(LineFault::at(2, LineFaultKind::MissingWord))
     }
+}
+
+/// Two words that the image has.
+fn words_compared(image: &Image, compared: ComparedWords) -> Result<ClaimForm, LineFault>
+    ensures means { IfOk result (λ f. words_compared image.now (Ok compared) ≡ Ok (form_seen f)) }
+    ensures fault { IfErr result (λ f. words_compared image.now (Ok compared) ≡ Err f) }
+{
+    if !has_word(image, compared.address) {
+        return Err(LineFault::at(2, LineFaultKind::MissingWord));
+    }
+    if !has_word(image, compared.other) {
+        return Err(LineFault::at(5, LineFaultKind::MissingWord));
+    }
+    Ok(ClaimForm::Compared {
+        address: compared.address,
+        relation: compared.relation,
+        other: compared.other,
+        more: compared.more,
+    })
 }
 
 /// Whether an image has the word of a byte address.

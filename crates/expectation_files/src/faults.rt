@@ -24,6 +24,10 @@ pub enum LineForm {
     Finished,
     /// `stopped`, about a trap.
     Stopped,
+    /// `waits`, about a stream that may wait forever.
+    Waits,
+    /// `loops`.
+    Loops,
     /// `always`, `never` or `some`, about the states on the way.
     Claim,
     /// `entries`, about how many entries the program has.
@@ -75,7 +79,7 @@ pub enum LineFaultKind {
     Busy,
     /// So does `starved`.
     Starved,
-    /// The claim has named this stream before.
+    /// The group of the claim has named this stream before.
     Twice,
     /// The program has no word at this address.
     MissingWord,

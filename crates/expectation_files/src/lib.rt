@@ -8,6 +8,7 @@ mod all_faults;
 mod claim_lines;
 mod claim_streams;
 mod claim_tests;
+mod compared_words;
 mod end_lines;
 mod faults;
 mod lines;

@@ -2,7 +2,8 @@
 
 ghost use Rattle.std.specs.Prelude.{◌≡◌, ◌||◌, ℕ, List, [], ◌∷◌, Ok, Err, IfOk, IfErr};
 ghost use Rattle.expectation_files.specs.Words.{words_of};
-ghost use Rattle.expectation_files.specs.Lines.{line_said, meaning_named, claim_named, work_named, rules_named};
+ghost use Rattle.expectation_files.specs.Lines.{line_said, meaning_named, allowance_named, claim_named};
+ghost use Rattle.expectation_files.specs.Lines.{work_named, rules_named};
 ghost use Rattle.expectation_files.specs.Lines.{never_said, is_least};
 ghost use Rattle.expectation_files.specs.Lines.{is_busy_alone, is_starved_alone, is_points, said_after, Rules};
 ghost use Rattle.expectation_files.specs.OperandsSeen.{AreOperands};
@@ -12,7 +13,7 @@ ghost use Rattle.expectation_files.specs.declared.faults.LineFault.{LineFault};
 
 use crate::addresses::KnownNames;
 use crate::claim_lines::read_claim;
-use crate::end_lines::{read_finished, read_register, read_stopped};
+use crate::end_lines::{read_finished, read_loops, read_register, read_stopped, read_waits};
 use crate::faults::{LineFault, LineFaultKind, Unread};
 use crate::marks::{CaseMark, mark_named};
 use crate::rule_lines::{OperationVerb, read_entries, read_most_words, read_operations};
@@ -31,7 +32,7 @@ use work_rules::WorkRule;
 pub(crate) enum LineMeaning {
     /// Nothing: it has blanks and a comment at most.
     Nothing,
-    /// What the end of a run has to be.
+    /// What the end of a run has to be, or may be.
     End(Expectation),
     /// What has to hold of the states on the way.
     Claim(Claim),
@@ -142,6 +143,29 @@ fn read_named(
     }
     if name == b"stopped".as_slice() {
         return Ok(LineMeaning::End(read_stopped(&operands)?));
+    }
+    read_allowance_named(alloc, names, image, name, text)
+}
+
+/// What a line says that begins with this name, which is none of those of what an end has to be.
+fn read_allowance_named(
+    alloc: Global,
+    names: KnownNames<'_, '_, '_>,
+    image: &Image,
+    name: &[u8],
+    text: &[u8],
+) -> Result<LineMeaning, Unread>
+    ensures means { IfOk result (λ m. allowance_named (names_in names.entry) image.now name.now (words_of text.now)
+        ≡ Ok (meaning_seen m)) }
+    ensures fault { IfErr result (λ u. (f : LineFault) → u ≡ unread.Fault f
+        → allowance_named (names_in names.entry) image.now name.now (words_of text.now) ≡ Err f) }
+{
+    let operands = read_operands(text);
+    if name == b"waits".as_slice() {
+        return Ok(LineMeaning::End(read_waits(names, image, &operands)?));
+    }
+    if name == b"loops".as_slice() {
+        return Ok(LineMeaning::End(read_loops(&operands)?));
     }
     read_claim_named(alloc, names, image, name, text)
 }

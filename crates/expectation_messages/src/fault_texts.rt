@@ -160,8 +160,11 @@ fn form_words(form: LineForm) -> &'static str {
         LineForm::Register => "a line about a register is register P.S rN VALUE",
         LineForm::Finished => "nothing follows finished",
         LineForm::Stopped => "a line about a trap is stopped P.S TRAP",
+        LineForm::Waits =>
+            "a line about a stream that may wait forever is waits P.S in FIRST..LAST",
+        LineForm::Loops => "nothing follows loops",
         LineForm::Claim => {
-            "after always, never or some comes word ADDRESS is VALUE, word ADDRESS above|below VALUE [signed], word ADDRESS full|empty, or at most N of P.S .. in FIRST..LAST"
+            "after always, never or some comes word ADDRESS is VALUE, word ADDRESS above|below VALUE [signed], word ADDRESS is|above|below word ADDRESS [+ NUMBER] [signed], word ADDRESS full|empty, or at most|least N of P.S .. in FIRST..LAST[, P.S .. in FIRST..LAST]"
         }
         LineForm::Entries => "a line about entries is entries N",
         LineForm::MostWords => "a line about the size of the program is at most N words",

@@ -45,7 +45,8 @@ all_idle proc = list_all is_idle proc.streams
 abbrev pub is_finished : World → Bool
 is_finished w = list_all all_idle w.processors
 
--- whether a world is as an expectation says; a word or a stream that is not there is not as expected
+-- whether a world is as an expectation says; a word or a stream that is not there is not as expected, and each world is as
+-- one says that allows something
 abbrev pub is_met : World → Expectation → Bool
 is_met w (expect.Word a value state) = is_word value state (cell_at w.memory a)
 is_met w (expect.Words a b value state) = are_words value state w.memory a (word_count a b)
@@ -54,6 +55,8 @@ is_met w (expect.Compared a r b more) = is_compared r more (cell_at w.memory a) 
 is_met w (expect.Register p s r value) = holds_in_register r value (stream_in w p s)
 is_met w expect.Finished = is_finished w
 is_met w (expect.Stopped p s trap) = is_stopped_by trap (stream_in w p s)
+is_met w (expect.Waits p s first last) = true
+is_met w expect.Loops = true
 
 -- the same of a processor that may be missing, for the code
 abbrev pub all_idle_at : Option ProcessorValue → Bool

@@ -13,6 +13,8 @@ names_register r (expect.Compared a t b more) = false
 names_register r (expect.Register p s n value) = n == r
 names_register r expect.Finished = false
 names_register r (expect.Stopped p s trap) = false
+names_register r (expect.Waits p s first last) = false
+names_register r expect.Loops = false
 
 -- whether one of some expectations does
 abbrev pub is_register_named : List Expectation → ℕ → Bool
@@ -27,3 +29,5 @@ IsOfRegisters (expect.Compared a t b more) = ⊤
 IsOfRegisters (expect.Register p s n value) = n < 32
 IsOfRegisters expect.Finished = ⊤
 IsOfRegisters (expect.Stopped p s trap) = ⊤
+IsOfRegisters (expect.Waits p s first last) = ⊤
+IsOfRegisters expect.Loops = ⊤

@@ -24,7 +24,7 @@ pub enum Relation {
     BelowSigned,
 }
 
-/// One thing that the end of a run has to be.
+/// One thing that the end of a run has to be, or may be.
 #[derive(Clone, Copy, Debug, PartialEq, Eq)]
 pub enum Expectation {
     /// A word of the memory.
@@ -89,4 +89,17 @@ pub enum Expectation {
         /// The trap's number, 1 to 10.
         trap: u8,
     },
+    /// A stream may wait forever at places of a range, as a server does. Each end meets this: it allows something.
+    Waits {
+        /// The processor's number.
+        p: u8,
+        /// The stream's number.
+        s: u8,
+        /// The first program word of the range.
+        first: u32,
+        /// The last program word of the range.
+        last: u32,
+    },
+    /// The program may go on forever. Each end meets this: it allows something.
+    Loops,
 }

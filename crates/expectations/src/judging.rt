@@ -14,7 +14,8 @@ use crate::word_ranges::{are_words, is_sum};
 use machine::Machine;
 use stream_core::{Status, Stream};
 
-/// Whether a machine is as an expectation says. A word or a stream that the machine does not have is not as expected.
+/// Whether a machine is as an expectation says. A word or a stream that the machine does not have is not as expected. Each
+/// machine is as one says that allows something.
 ///
 /// No stream has a register that is not one of 32.
 pub fn is_met<const S: usize>(machine: &Machine<'_, S>, expectation: &Expectation) -> bool
@@ -48,6 +49,7 @@ pub fn is_met<const S: usize>(machine: &Machine<'_, S>, expectation: &Expectatio
         } => holds_in_register(stream(machine, p, s), number, value),
         Expectation::Finished => is_finished(machine),
         Expectation::Stopped { p, s, trap } => is_stopped_by(stream(machine, p, s), trap),
+        Expectation::Waits { .. } | Expectation::Loops => true,
     }
 }
 

@@ -38,6 +38,8 @@ fn names_register(expectation: &Expectation, register: u8) -> bool
         | Expectation::Sum { .. }
         | Expectation::Compared { .. }
         | Expectation::Finished
-        | Expectation::Stopped { .. } => false,
+        | Expectation::Stopped { .. }
+        | Expectation::Waits { .. }
+        | Expectation::Loops => false,
     }
 }

@@ -40,14 +40,18 @@ abbrev pub is_deadlock_kind : EndKind → Bool
 is_deadlock_kind kind.Finished = false
 is_deadlock_kind kind.Stopped = false
 is_deadlock_kind kind.Deadlock = true
+is_deadlock_kind kind.Waiting = false
 is_deadlock_kind kind.Spinning = false
+is_deadlock_kind kind.Looping = false
 is_deadlock_kind kind.OutOfSteps = false
 
 abbrev pub is_spinning_kind : EndKind → Bool
 is_spinning_kind kind.Finished = false
 is_spinning_kind kind.Stopped = false
 is_spinning_kind kind.Deadlock = false
+is_spinning_kind kind.Waiting = false
 is_spinning_kind kind.Spinning = true
+is_spinning_kind kind.Looping = false
 is_spinning_kind kind.OutOfSteps = false
 
 abbrev pub is_deadlock : SpaceEndKind → Bool

@@ -23,7 +23,9 @@ abbrev pub missed_at_kind : EndKind → Option ℕ → Option MissedLine
 missed_at_kind kind.Finished missed = expectation_at missed
 missed_at_kind kind.Stopped missed = expectation_at missed
 missed_at_kind kind.Deadlock missed = expectation_at missed
+missed_at_kind kind.Waiting missed = expectation_at missed
 missed_at_kind kind.Spinning missed = None
+missed_at_kind kind.Looping missed = None
 missed_at_kind kind.OutOfSteps missed = expectation_at missed
 
 -- of an end of all schedules: the first expectation that it misses, or the line that its worlds break

@@ -8,7 +8,7 @@ use Rattle.schedule_makers.specs.Seeds.{rule_of_seed}
 use Rattle.schedule_makers.specs.FairLengths.{IsFairLength}
 use Rattle.schedule_makers.specs.Made.{IsMade}
 use Rattle.schedule_makers.specs.declared.made.MadeEnd.{MadeEnd}
-use Rattle.end_kinds.specs.Ends.{IsKindOf}
+use Rattle.seed_outcomes.specs.EndStates.Judgements.{IsJudgedKind}
 use Rattle.expectations.specs.Meeting.{is_met}
 use Rattle.lab_requests.specs.declared.requests.Bounds.{Bounds}
 use Rattle.program_rules.specs.Keeping.{is_kept}
@@ -57,7 +57,7 @@ pub record EndsAsShown (image : ImageValue) (required : Requirements) (most : �
   pub schedule : List Step
   pub end : MadeEnd
   pub made : IsMade (rule_of_seed run.seed fair) (loaded image) machine most schedule end
-  pub kind : IsKindOf machine.image machine.world run.end.judgement.kind
+  pub kind : IsJudgedKind machine.image required.ends.items machine.world run.end.judgement.kind
   pub missed : run.end.judgement.missed ≡ position (λ x. not (is_met machine.world x)) required.ends.items
   pub trapped : IsFalse run.end.judgement.is_trapped ↔ AreTrapsExpected required.ends.items machine.world
   pub state : IsEndState machine run.end.state

@@ -259,9 +259,13 @@ pub fn line_missed_by(end: &SpaceEnd) -> Option<MissedLine>
     ensures { result ≡ missed_at_end end.now.kind end.now.missed }
 {
     match end.kind {
-        SpaceEndKind::End(EndKind::Spinning) => None,
+        SpaceEndKind::End(EndKind::Spinning | EndKind::Looping) => None,
         SpaceEndKind::End(
-            EndKind::Finished | EndKind::Stopped | EndKind::Deadlock | EndKind::OutOfSteps,
+            EndKind::Finished
+            | EndKind::Stopped
+            | EndKind::Deadlock
+            | EndKind::Waiting
+            | EndKind::OutOfSteps,
         ) => expectation_at(end.missed),
         SpaceEndKind::Broken { claim } => Some(MissedLine::Claim(claim)),
         SpaceEndKind::Busy => Some(MissedLine::Busy),

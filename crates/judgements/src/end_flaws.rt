@@ -13,13 +13,13 @@ use seed_outcomes::ends_of_space::{SpaceEnd, SpaceEndKind};
 pub enum EndFlaw {
     /// A trap that nobody expected stopped a stream.
     Trap,
-    /// Nobody can go on.
+    /// Nobody can go on, and some stream may not wait where it stands.
     Deadlock,
     /// The end is not as expected. Of a set that spins it is not asked.
     Wrong,
     /// A claim does not hold of some world on the way, or a stream loops alone where none is to.
     Broken,
-    /// It can go on forever.
+    /// It can go on forever, and may not.
     Spinning,
 }
 
@@ -96,28 +96,38 @@ fn found_of(ends: &[SpaceEnd], flaw: EndFlaw) -> Option<FoundFlaw>
     None
 }
 
-/// Whether worlds are deadlocks.
+/// Whether worlds are deadlocks, which are none where each stream that runs may wait.
 fn is_deadlock(kind: SpaceEndKind) -> bool
     ensures { result ≡ is_deadlock kind }
 {
     match kind {
         SpaceEndKind::End(EndKind::Deadlock) => true,
         SpaceEndKind::End(
-            EndKind::Finished | EndKind::Stopped | EndKind::Spinning | EndKind::OutOfSteps,
+            EndKind::Finished
+            | EndKind::Stopped
+            | EndKind::Waiting
+            | EndKind::Spinning
+            | EndKind::Looping
+            | EndKind::OutOfSteps,
         )
         | SpaceEndKind::Broken { .. }
         | SpaceEndKind::Busy => false,
     }
 }
 
-/// Whether no schedule leads from worlds to an end.
+/// Whether no schedule leads from worlds to an end, where the program may not go on so.
 fn is_spinning(kind: SpaceEndKind) -> bool
     ensures { result ≡ is_spinning kind }
 {
     match kind {
         SpaceEndKind::End(EndKind::Spinning) => true,
         SpaceEndKind::End(
-            EndKind::Finished | EndKind::Stopped | EndKind::Deadlock | EndKind::OutOfSteps,
+            EndKind::Finished
+            | EndKind::Stopped
+            | EndKind::Deadlock
+            | EndKind::Waiting
+            | EndKind::Looping
+            | EndKind::OutOfSteps,
         )
         | SpaceEndKind::Broken { .. }
         | SpaceEndKind::Busy => false,

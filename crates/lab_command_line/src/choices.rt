@@ -77,8 +77,8 @@ pub(crate) const RULE_WORDS: [&str; 3] = ["rounds", "fair", "random"];
 pub(crate) const RULES: [RuleName; 3] = [RuleName::Rounds, RuleName::Fair, RuleName::Random];
 
 /// The goals of `play` that are kinds of ends; the number of an end is one too.
-pub(crate) const GOALS: [&str; 6] = [
-    "right", "wrong", "deadlock", "stopped", "spinning", "broken",
+pub(crate) const GOALS: [&str; 8] = [
+    "right", "wrong", "deadlock", "waiting", "stopped", "spinning", "looping", "broken",
 ];
 
 /// What a word means, of these words with these meanings; None if it is none of them.

@@ -127,7 +127,8 @@ explored. If --expect claims something about streams at some addresses, steps fr
 not explored so. --plain explores all states.
 
 Beside lines about ends the file of --expect may have claims: always, never or some, and then
-word ADDRESS is|above|below VALUE, word ADDRESS full|empty, or at most N of P.S .. in FIRST..LAST.
+word ADDRESS is|above|below VALUE, word ADDRESS is|above|below word ADDRESS [+ NUMBER], word ADDRESS
+full|empty, or at most|least N of P.S .. in FIRST..LAST, perhaps with a comma and another such group.
 above and below compare signed if VALUE has a sign (-1, +3), or if signed follows it (below 0
 signed). Else a word is a number from 0 on: -1 is above 5, and none is below 0.
 

@@ -26,7 +26,7 @@ pub(crate) const PLAY_ARGUMENTS: [Argument; 8] = [
     TITLE,
     Argument(
         "goal",
-        "the first goal: right, wrong, deadlock, stopped, spinning, broken, or the number of an end [none]",
+        "the first goal: right, wrong, deadlock, waiting, stopped, spinning, looping, broken, or the number of an end [none]",
         Form::Option("TEXT", ValueKind::OneOfOrOther(&GOALS), Presence::Free),
     ),
     Argument(

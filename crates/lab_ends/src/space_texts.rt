@@ -3,7 +3,6 @@
 use crate::end_texts::state_text;
 use crate::findings::first_finding;
 use crate::loop_texts::{cycle_text, loop_text};
-use end_kinds::EndKind;
 use expectation_files::{NEVER_BUSY, Requirements};
 use image_file::Image;
 use image_machines::by_room;
@@ -91,7 +90,7 @@ pub fn text_of_end(
     if let Some(line) = broken_line(required, end.kind) {
         return String::from_str(alloc, line.words);
     }
-    if end.kind == SpaceEndKind::End(EndKind::Spinning) {
+    if end.kind.is_endless() {
         return loop_text(alloc, notation, image, end);
     }
     state_text(alloc, notation, image, &end.state)

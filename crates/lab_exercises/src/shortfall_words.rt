@@ -70,7 +70,9 @@ fn put_wanted(out: &mut TextWriter, names: &ProgramNames<'_>, expectation: Expec
         Expectation::Finished
         | Expectation::Word { .. }
         | Expectation::Words { .. }
-        | Expectation::Compared { .. } => out.put("every stream should have finished"),
+        | Expectation::Compared { .. }
+        | Expectation::Waits { .. }
+        | Expectation::Loops => out.put("every stream should have finished"),
     }
 }
 

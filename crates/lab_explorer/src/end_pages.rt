@@ -27,6 +27,8 @@ pub(crate) struct FoundProgram<'a> {
     pub found: &'a Explored<'a>,
     /// Who can wait forever; None if that was not asked, or has no answer.
     pub waits: Option<&'a EndlessWaits>,
+    /// Whether it was asked, or is required that nobody can: only then it counts for the exit status.
+    pub is_waiting_asked: bool,
     /// The folder for the schedules, if they are kept.
     pub keep: Option<&'a str>,
 }

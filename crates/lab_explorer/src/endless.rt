@@ -2,14 +2,13 @@
 
 use crate::waiting_objects::push_waits_objects;
 use crate::waiting_text::push_waits_lines;
-use end_kinds::EndKind;
 use image_file::Image;
 use processor::Step;
 use search_texts::parts::texts::ProgramNames;
 use search_texts::searches::Explored;
 use search_texts::searches::endless::EndlessWaits;
 use search_texts::searches::endless::starving::StarvingStreams;
-use space_graphs::ends_of_space::{SpaceEnd, SpaceEndKind};
+use space_graphs::ends_of_space::SpaceEnd;
 use std::alloc::{AllocError, Global};
 
 /// A program of which it was asked who can wait forever.
@@ -76,7 +75,7 @@ fn is_never(answer: &StarvingStreams, stream: Step) -> bool {
 
 /// Whether it is an endless loop.
 pub(crate) fn is_spinning(end: &SpaceEnd) -> bool {
-    end.kind == SpaceEndKind::End(EndKind::Spinning)
+    end.kind.is_endless()
 }
 
 /// Whether it is a livelock: an endless loop in which no step changes a word, so that streams do no more than try.

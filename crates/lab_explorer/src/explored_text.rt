@@ -81,7 +81,11 @@ fn push_waits(
         going: &going,
     };
     waiting.push(alloc, out, is_json)?;
-    Ok(waits.status())
+    Ok(if shown.is_waiting_asked {
+        waits.status()
+    } else {
+        Status::Done
+    })
 }
 
 /// What it means for the exit status that a search does not decide who does the work.

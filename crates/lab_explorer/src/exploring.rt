@@ -81,6 +81,7 @@ fn show_ends<C: Clock, F: Files, R: Read, E: Write>(
         required: read.required,
         found: &found,
         waits: waits_shown(waits.as_ref(), &found),
+        is_waiting_asked: request.asks_who_waits || read.required.never_starved().is_some(),
         keep: request.keep,
     };
     let mut answer = answer_of(alloc, request.shown.json, notation, shown)?;

@@ -21,7 +21,7 @@ use std::time::Clock;
 
 /// What is said of a word that is no goal.
 const GOALS: &str =
-    "a goal is right, wrong, finished, stopped, deadlock, spinning, broken, or the number of an end";
+    "a goal is right, wrong, finished, stopped, deadlock, waiting, spinning, looping, broken, or the number of an end";
 
 /// What is said of a right or wrong end where nothing is expected.
 const NOT_JUDGED: &str = "without --expect no end is right or wrong";

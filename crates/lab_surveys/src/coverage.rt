@@ -1,7 +1,6 @@
 //! What the search among every schedule adds to a survey.
 
 use crate::survey_objects::{SurveyInput, push_broken_object, push_coverage};
-use end_kinds::EndKind;
 use plain_text::plural;
 use search_texts::ends_in_words::{BrokenLine, broken_line};
 use search_texts::searches::Explored;
@@ -90,16 +89,10 @@ fn push_met(
 
 /// Whether a run can show that it came to an end of this kind: one that goes on forever has no end.
 fn is_shown_by_runs(kind: SpaceEndKind) -> bool {
-    match kind {
-        SpaceEndKind::End(kind) => kind != EndKind::Spinning,
-        SpaceEndKind::Broken { .. } | SpaceEndKind::Busy => false,
-    }
+    kind.is_end() && !kind.is_endless()
 }
 
 /// Whether a search found an endless loop.
 pub(crate) fn can_go_on_forever(found: &Explored<'_>) -> bool {
-    found
-        .ends
-        .iter()
-        .any(|end| end.kind == SpaceEndKind::End(EndKind::Spinning))
+    found.ends.iter().any(|end| end.kind.is_endless())
 }

@@ -19,7 +19,7 @@ const HUGE: &str = ".slim 1\n.entry 0\nQUIT\n.data 0x8000000000000000\n.data 0x8
 /// A source, how many steps are taken, a text of expectations, and which of them is the first that is not met.
 type Row = (&'static str, usize, &'static str, Option<usize>);
 
-const ROWS: [Row; 28] = [
+const ROWS: [Row; 30] = [
     (
         STOPPING,
         3,
@@ -78,11 +78,13 @@ const ROWS: [Row; 28] = [
         Some(2),
     ),
     (HUGE, 1, "sum 0..8 1\nword 8 is word 0 + 1", None),
+    (QUITTING, 1, "waits 0.0 in 0..0\nloops\nfinished", Some(2)),
+    (STOPPING, 1, "waits 0.0 in 1..1", None),
 ];
 
 /// A text that has a fault, its line, and what it is.
 /// A text, the line of its fault, the word there, from 0, and what is wrong with it. The program is `QUITTING`.
-const FAULTS: [(&str, usize, usize, LineFaultKind); 68] = [
+const FAULTS: [(&str, usize, usize, LineFaultKind); 79] = [
     (
         "finished\nword 8",
         2,
@@ -103,6 +105,27 @@ const FAULTS: [(&str, usize, usize, LineFaultKind); 68] = [
         3,
         LineFaultKind::Form(LineForm::Word),
     ),
+    ("waits 16.0 in 0..1", 1, 1, LineFaultKind::Stream),
+    ("waits 1.0 in 0..1", 1, 1, LineFaultKind::MissingStream),
+    ("waits 0.1 in 0..1", 1, 1, LineFaultKind::MissingStream),
+    ("waits 0.0 in 0", 1, 3, LineFaultKind::Points),
+    ("waits 0.0 in 1..0", 1, 3, LineFaultKind::PlaceRange),
+    ("waits 0.0 in 0..2", 1, 3, LineFaultKind::Place),
+    ("waits 0.0 in go..go", 1, 3, LineFaultKind::Place),
+    (
+        "waits 0.0 at 0..1",
+        1,
+        2,
+        LineFaultKind::Form(LineForm::Waits),
+    ),
+    ("waits 0.0", 1, 0, LineFaultKind::Form(LineForm::Waits)),
+    (
+        "waits 0.0 in 0..1 1",
+        1,
+        0,
+        LineFaultKind::Form(LineForm::Waits),
+    ),
+    ("loops 1", 1, 0, LineFaultKind::Form(LineForm::Loops)),
     ("points 1001", 1, 1, LineFaultKind::Worth),
     ("points -1", 1, 1, LineFaultKind::Worth),
     ("points 0x10", 1, 1, LineFaultKind::Worth),

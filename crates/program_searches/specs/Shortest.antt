@@ -18,8 +18,10 @@ abbrev pub is_last : EndKind → Bool
 is_last kind.Finished = true
 is_last kind.Stopped = true
 is_last kind.Deadlock = true
+is_last kind.Waiting = true
 is_last kind.OutOfSteps = true
 is_last kind.Spinning = false
+is_last kind.Looping = false
 
 -- by a search for ends: of an end where it has all, never of what spins; of another world where the steps lead there with
 -- which all schedules begin

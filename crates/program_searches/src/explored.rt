@@ -132,7 +132,11 @@ fn is_last(kind: EndKind) -> bool
     ensures { result ≡ is_last kind }
 {
     match kind {
-        EndKind::Finished | EndKind::Stopped | EndKind::Deadlock | EndKind::OutOfSteps => true,
-        EndKind::Spinning => false,
+        EndKind::Finished
+        | EndKind::Stopped
+        | EndKind::Deadlock
+        | EndKind::Waiting
+        | EndKind::OutOfSteps => true,
+        EndKind::Spinning | EndKind::Looping => false,
     }
 }

@@ -19,11 +19,13 @@ const KINDS: [VerdictKind; 10] = [
 ];
 
 /// All kinds of ends.
-const END_KINDS: [EndKind; 5] = [
+const END_KINDS: [EndKind; 7] = [
     EndKind::Finished,
     EndKind::Stopped,
     EndKind::Deadlock,
+    EndKind::Waiting,
     EndKind::Spinning,
+    EndKind::Looping,
     EndKind::OutOfSteps,
 ];
 

@@ -1,7 +1,7 @@
 -- Worlds that agree are judged alike: each as the one is in which registers that do not matter hold 0.
 use Rattle.std.proofs.Common.{Bool, ◌≡◌, ℕ, zero, suc, ◌+◌, cond, ◌<◌, ◌≤◌, ◌⊎◌, inl, inr, refl, sym, ap, ◌∙◌, arith}
 use Rattle.std.proofs.Common.{List, [], ◌∷◌, length, map, Option, Some, None, slice_get, ◌&&◌}
-use Rattle.std.specs.Prelude.{IsTrue, nat_le}
+use Rattle.std.specs.Prelude.{IsTrue}
 use Rattle.std.specs.List.{list_all}
 use Rattle.std.specs.Option.{option_map, option_and_then}
 use Rattle.std.proofs.lemmas.Bool.{cases_lt, eq-eqb, or_left, or_right}
@@ -11,7 +11,6 @@ use Rattle.stream_core.specs.Streams.{StreamValue}
 use Rattle.processor.specs.Processors.{ProcessorValue, is_idle}
 use Rattle.processor.specs.World.{World}
 use Rattle.processor.specs.declared.steps.Step.{Step}
-use Rattle.waiting.specs.Running.{streams_at, runs_at, runs_in}
 use Rattle.program_flow.specs.Tables.{is_named_by}
 use Rattle.busy_streams.specs.DeadRegisters.Clearing.{LiveValue, kept_registers, cleared_stream, cleared_processor, cleared, AgreeBy}
 use Rattle.busy_streams.proofs.DeadRegisters.Registers.{all_kept, is_kept, does_matter}
@@ -20,14 +19,16 @@ use Rattle.expectations.specs.Meeting.{stream_in, holds_in_register, is_number, 
 use Rattle.expectations.specs.NamedRegisters.{names_register, is_register_named}
 use Rattle.expectations.specs.declared.expectation.Expectation.{Expectation}
 use Rattle.expectations.specs.declared.expectation.Expectation.TheVariants as expect
-use Rattle.claims.specs.Holding.{runs_at_places, count_at_places, stream_at, form_holds, holds_by, shown_by}
+use Rattle.claims.specs.Holding.{runs_at_places, count_at_places, count_in_group, count_in_groups, counts_so, stream_at}
+use Rattle.claims.specs.Holding.{form_holds, holds_by, shown_by}
 use Rattle.claims.specs.declared.claim.Claim.{Claim}
 use Rattle.claims.specs.declared.claim.ClaimForm.{ClaimForm}
 use Rattle.claims.specs.declared.claim.ClaimForm.TheVariants as form
+use Rattle.claims.specs.declared.claim.StreamGroup.{StreamGroup}
 use Rattle.schedule_verdicts.specs.KeptClaims.{all_hold}
 use Rattle.schedule_verdicts.specs.ClaimMarks.{passes}
 use Rattle.schedule_verdicts.specs.NamedRegisters.{AreAllNamed}
-use Rattle.schedule_verdicts.specs.RightEnds.{are_met, is_stop_expected, IsRightEnd}
+use Rattle.schedule_verdicts.specs.RightEnds.{are_met, is_stop_expected, is_rest_expected, IsRightEnd}
 
 -- What is seen of a cleared world.
 
@@ -86,21 +87,10 @@ module _ (l : LiveValue) where
   stop_expected expected p s None = refl
   stop_expected expected p s (Some d) = refl
 
-  running : (o : Option StreamValue) → runs_at (option_map (cleared_stream l) o) ≡ runs_at o
-  running None = refl
-  running (Some s) = refl
-
-  running_among : (o : Option ProcessorValue) (s : ℕ)
-      → runs_at (slice_get (streams_at (option_map (cleared_processor l) o)) s) ≡ runs_at (slice_get (streams_at o) s)
-  running_among None s = refl
-  running_among (Some d) s = ap runs_at (get_map (cleared_stream l) d.streams s) ∙ running (slice_get d.streams s)
-
-  runs_cleared : (w : World) (t : Step) → runs_in (cleared l w) t ≡ runs_in w t
-  unfolding cleared
-  runs_cleared w t =
-      ap (λ (o : Option ProcessorValue). runs_at (slice_get (streams_at o) t.s))
-      (get_map (cleared_processor l) w.processors t.p)
-      ∙ running_among (slice_get w.processors t.p) t.s
+  rest_expected : (expected : List Expectation) (p s : ℕ) (o : Option StreamValue)
+      → is_rest_expected expected p s (option_map (cleared_stream l) o) ≡ is_rest_expected expected p s o
+  rest_expected expected p s None = refl
+  rest_expected expected p s (Some d) = refl
 
   idle_streams : (ss : List StreamValue) → list_all is_idle (map (cleared_stream l) ss) ≡ list_all is_idle ss
   idle_streams [] = refl
@@ -124,6 +114,8 @@ module _ (l : LiveValue) where
   met_cleared w expect.Finished named = idle_processors w.processors
   met_cleared w (expect.Stopped p s trap) named =
       ap (is_stopped_by trap) (stream_cleared w p s) ∙ stopped trap (stream_in w p s)
+  met_cleared w (expect.Waits p s first last) named = refl
+  met_cleared w expect.Loops named = refl
 
   all_met_cleared : (w : World) (es : List Expectation) → AreAllNamed es l.names → are_met (cleared l w) es ≡ are_met w es
   all_met_cleared w [] named = refl
@@ -150,10 +142,18 @@ module _ (l : LiveValue) where
       ∙ ap (λ n. one_at first last w t + n) (counted w first last ts)
       ∙ sym (sum_by-cons (one_at first last w) t ts)
 
+  groups_cleared : (w : World) (gs : List StreamGroup) → count_in_groups (cleared l w) gs ≡ count_in_groups w gs
+  groups_cleared w [] = refl
+  groups_cleared w (g ∷ gs) =
+      sum_by-cons (count_in_group (cleared l w)) g gs
+      ∙ (λ i. counted w g.first g.last g.streams.items i + groups_cleared w gs i)
+      ∙ sym (sum_by-cons (count_in_group w) g gs)
+
   form_cleared : (w : World) (f : ClaimForm) → form_holds (cleared l w) f ≡ form_holds w f
   unfolding cleared
   form_cleared w (form.Word a t) = refl
-  form_cleared w (form.AtMost most ts first last) = ap (λ n. nat_le n most) (counted w first last ts.items)
+  form_cleared w (form.Compared a r b more) = refl
+  form_cleared w (form.Streams t gs) = ap (counts_so t) (groups_cleared w gs.items)
 
   claims_cleared : (w : World) (cs : List Claim) → all_hold cs (cleared l w) ≡ all_hold cs w
   claims_cleared w [] = refl
@@ -189,13 +189,21 @@ module _ (l : LiveValue) where
         cleared_stop w =
             ap (is_stop_expected es t.p t.s) (stream_cleared w t.p t.s) ∙ stop_expected es t.p t.s (stream_in w t.p t.s)
 
-    run_same : (t : Step) → runs_in a t ≡ runs_in b t
-    run_same t =
-        sym (runs_cleared a t) ∙ ap (λ w. runs_in w t) (agreeing_same l a b g) ∙ runs_cleared b t
+    rest_same : (es : List Expectation) (t : Step)
+        → is_rest_expected es t.p t.s (stream_in a t.p t.s) ≡ is_rest_expected es t.p t.s (stream_in b t.p t.s)
+    rest_same es t =
+        sym (cleared_rest a) ∙ ap (λ w. is_rest_expected es t.p t.s (stream_in w t.p t.s)) (agreeing_same l a b g)
+        ∙ cleared_rest b
+      where
+        cleared_rest : (w : World)
+            → is_rest_expected es t.p t.s (stream_in (cleared l w) t.p t.s)
+            ≡ is_rest_expected es t.p t.s (stream_in w t.p t.s)
+        cleared_rest w =
+            ap (is_rest_expected es t.p t.s) (stream_cleared w t.p t.s) ∙ rest_expected es t.p t.s (stream_in w t.p t.s)
 
     pub agreeing_right : (es : List Expectation) → AreAllNamed es l.names → IsRightEnd es a → IsRightEnd es b
     agreeing_right es named right = record {
-      finished = λ runs. right.finished (runs.0, run_same runs.0 ∙ runs.1);
+      waits = λ t. sym (rest_same es t) ∙ right.waits t;
       met = sym (agreeing_met es named) ∙ right.met;
       traps = λ t. sym (stop_same es t) ∙ right.traps t;
     }

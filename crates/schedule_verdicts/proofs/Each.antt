@@ -27,9 +27,9 @@ right_of_space v expected claims earlier right = record {
         let on = begun v earlier k below in
         subst (IsRightEnd expected) on.1 (right.right.ends on.0 (subst (IsEnd v.image) (sym on.1) end));
   };
-  reach = λ k below.
+  reach = λ must_end k below.
       let on = begun v earlier k below in
-      subst (CanEnd v.image) on.1 (right.right.reach on.0);
+      subst (CanEnd v.image) on.1 (right.right.reach must_end on.0);
   kept = λ k below.
       let on = begun v earlier k below in
       subst (λ w. IsTrue (all_hold claims w)) on.1 (right.claimed on.0);

@@ -28,7 +28,7 @@ pub right_by_worlds : (v : SpaceValue) (expected : List Expectation) (claims : L
 right_by_worlds v expected claims right all = record {
   right = record {
     ends = λ ts end. right_at v expected claims (run v.image (v.begin ++ ts)) right (all ts) end;
-    reach = λ ts. subst (CanEnd v.image) (all ts).2 (right.reach (all ts).0 (all ts).1);
+    reach = λ must_end ts. subst (CanEnd v.image) (all ts).2 (right.reach must_end (all ts).0 (all ts).1);
   };
   claimed = λ ts.
       subst (λ w. IsTrue (all_hold claims w)) (all ts).2 (right.kept (all ts).0 (all ts).1);

@@ -1,6 +1,7 @@
 mod Alike
 mod StandIns
 mod Looking
+pub mod Resting
 pub mod Every
 mod Each
 mod Sought

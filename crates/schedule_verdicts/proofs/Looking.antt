@@ -1,10 +1,11 @@
--- Which streams have to be looked at: a stream that a machine does not have was stopped by no trap.
+-- Which streams have to be looked at, where something is so of each stream that a machine does not have.
 use Rattle.std.proofs.Common.{◌≡◌, ℕ, ◌+◌, ◌<◌, ◌≤◌, ◌⊎◌, refl, sym, ap, subst, arith, inl, inr}
-use Rattle.std.proofs.Common.{Option, Some, None, List, length, slice_get}
+use Rattle.std.proofs.Common.{Option, Some, None, Bool, true, length, slice_get}
 use Rattle.std.specs.Prelude.{IsTrue}
 use Rattle.std.specs.Option.{option_and_then}
 use Rattle.std.proofs.lemmas.Bool.{cases_lt}
 use Rattle.std.proofs.lemmas.Option.{slice_get_past}
+use Rattle.stream_core.specs.Streams.{StreamValue}
 use Rattle.processor.specs.Processors.{ProcessorValue}
 use Rattle.processor.specs.World.{World}
 use Rattle.processor.specs.declared.steps.Step.{Step}
@@ -13,15 +14,6 @@ use Rattle.waiting.specs.Running.{streams_at}
 use Rattle.waiting.proofs.Standing.{few_streams}
 use Rattle.waiting.proofs.Looking.{below_next}
 use Rattle.expectations.specs.Meeting.{stream_in}
-use Rattle.expectations.specs.declared.expectation.Expectation.{Expectation}
-use Rattle.schedule_verdicts.specs.RightEnds.{is_stop_expected, AreTrapsExpected}
-
--- whether the stream is stopped as expected, or by no trap
-abbrev IsSo : List Expectation → World → Step → Type 0
-IsSo expected w t = IsTrue (is_stop_expected expected t.p t.s (stream_in w t.p t.s))
-
-missing : (expected : List Expectation) (w : World) (t : Step) → stream_in w t.p t.s ≡ None → IsSo expected w t
-missing expected w t none = subst (λ x. IsTrue (is_stop_expected expected t.p t.s x)) (sym none) refl
 
 -- past the image's slim there is no stream
 past_slim : (size : ℕ) (m : MachineValue) (t : Step) → IsMachine size m → m.image.slim ≤ t.s
@@ -44,24 +36,32 @@ past_entries size m t machine past =
     ap (option_and_then (λ (d : ProcessorValue). slice_get d.streams t.s))
     (slice_get_past m.world.processors t.p (omega (arith, machine.one_each)))
 
--- one processor more was looked at
-pub one_more : (size : ℕ) (m : MachineValue) (expected : List Expectation) (p n : ℕ) → IsMachine size m
-    → m.image.slim ≤ n → ((t : Step) → t.p < p → IsSo expected m.world t)
-    → ((k : ℕ) → k < n → IsSo expected m.world (record { p = p; s = k }))
-    → (t : Step) → t.p < p + 1 → IsSo expected m.world t
-one_more size m expected p n machine past below here =
-    below_next (IsSo expected m.world) p below (λ k. each k (cases_lt k n)) where
-      each : (k : ℕ) → (k < n) ⊎ (n ≤ k) → IsSo expected m.world (record { p = p; s = k })
-      each k (inl less) = here k less
-      each k (inr most) =
-          missing expected m.world (record { p = p; s = k })
-          (past_slim size m (record { p = p; s = k }) machine (omega (arith, past, most)))
+module _ (is_so : ℕ → ℕ → Option StreamValue → Bool) (none_so : (p s : ℕ) → is_so p s None ≡ true) where
+  -- whether it is so of a stream
+  abbrev IsSo : World → Step → Type 0
+  IsSo w t = IsTrue (is_so t.p t.s (stream_in w t.p t.s))
 
--- all were looked at
-pub all_looked_at : (size : ℕ) (m : MachineValue) (expected : List Expectation) (p : ℕ) → IsMachine size m
-    → length m.image.entries ≤ p → ((t : Step) → t.p < p → IsSo expected m.world t)
-    → AreTrapsExpected expected m.world
-all_looked_at size m expected p machine past below t = by (cases_lt t.p p) where
-  by : (t.p < p) ⊎ (p ≤ t.p) → IsSo expected m.world t
-  by (inl less) = below t less
-  by (inr most) = missing expected m.world t (past_entries size m t machine (omega (arith, past, most)))
+  missing : (w : World) (t : Step) → stream_in w t.p t.s ≡ None → IsSo w t
+  missing w t none = subst (λ x. IsTrue (is_so t.p t.s x)) (sym none) (none_so t.p t.s)
+
+  -- one processor more was looked at
+  pub one_more : (size : ℕ) (m : MachineValue) (p n : ℕ) → IsMachine size m
+      → m.image.slim ≤ n → ((t : Step) → t.p < p → IsSo m.world t)
+      → ((k : ℕ) → k < n → IsSo m.world (record { p = p; s = k }))
+      → (t : Step) → t.p < p + 1 → IsSo m.world t
+  one_more size m p n machine past below here =
+      below_next (IsSo m.world) p below (λ k. each k (cases_lt k n)) where
+        each : (k : ℕ) → (k < n) ⊎ (n ≤ k) → IsSo m.world (record { p = p; s = k })
+        each k (inl less) = here k less
+        each k (inr most) =
+            missing m.world (record { p = p; s = k })
+            (past_slim size m (record { p = p; s = k }) machine (omega (arith, past, most)))
+
+  -- all were looked at
+  pub all_looked_at : (size : ℕ) (m : MachineValue) (p : ℕ) → IsMachine size m
+      → length m.image.entries ≤ p → ((t : Step) → t.p < p → IsSo m.world t)
+      → (t : Step) → IsSo m.world t
+  all_looked_at size m p machine past below t = by (cases_lt t.p p) where
+    by : (t.p < p) ⊎ (p ≤ t.p) → IsSo m.world t
+    by (inl less) = below t less
+    by (inr most) = missing m.world t (past_entries size m t machine (omega (arith, past, most)))

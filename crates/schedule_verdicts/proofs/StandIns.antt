@@ -36,6 +36,8 @@ below_one (expect.Compared a t b more) r of named = absurd cc
 below_one (expect.Register p s n value) r of named = grind (arith, of, named)
 below_one expect.Finished r of named = absurd cc
 below_one (expect.Stopped p s trap) r of named = absurd cc
+below_one (expect.Waits p s first last) r of named = absurd cc
+below_one expect.Loops r of named = absurd cc
 
 either : {P : Type 0} (a b : Bool) → (IsTrue a → P) → (IsTrue b → P) → (a || b) ≡ true → P
 either a b here later is = elim (or_cases a b is) [
@@ -91,5 +93,5 @@ pub right_by_ends : (v : SpaceValue) (expected : List Expectation) (claims : Lis
     → TellsWhetherAllEnd v → EndsRight v.image v.begin expected
 right_by_ends v expected claims right of live named all tells = record {
   ends = λ ts end. stands_right v expected (v.begin ++ ts) live named right.ends of (all ts end) end;
-  reach = tells right.reach;
+  reach = λ must_end. tells (right.reach must_end);
 }

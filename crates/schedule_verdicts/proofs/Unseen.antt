@@ -1,6 +1,6 @@
 -- A step that nobody sees who looks at some places and words changes no claim, where claims look at no others.
 use Rattle.std.proofs.Common.{◌≡◌, ◌≢◌, ℕ, zero, suc, ◌+◌, cond, ◌⊎◌, inl, inr, Bool, true, false, refl, sym, ap, ◌∙◌, eq-eqb}
-use Rattle.std.proofs.Common.{List, [], ◌∷◌, Option, Some, None, slice_get, ◌&&◌}
+use Rattle.std.proofs.Common.{List, [], ◌∷◌, Option, Some, None, slice_get, ◌==◌, ◌&&◌}
 use Rattle.std.specs.Prelude.{IsTrue, nat_le, slice_index_or}
 use Rattle.std.specs.List.{Contains}
 use Rattle.std.proofs.lemmas.Bool.{or_left, or_right}
@@ -13,11 +13,15 @@ use Rattle.processor.specs.Records.{is_running}
 use Rattle.processor.specs.World.{World, after}
 use Rattle.processor.specs.declared.steps.Step.{Step}
 use Rattle.busy_streams.proofs.AgreeingEnds.Moving.{same_step}
-use Rattle.claims.specs.Holding.{runs_at_places, count_at_places, stream_at, word_holds, form_holds, holds_by}
-use Rattle.claims.specs.Looking.{form_looks_at, is_looked_at, form_looks_at_word, is_word_looked_at}
+use Rattle.claims.specs.Holding.{runs_at_places, count_at_places, count_in_group, count_in_groups, counts_so}
+use Rattle.claims.specs.Holding.{stream_at, word_holds, form_holds, holds_by}
+use Rattle.claims.specs.Looking as looking
+use Rattle.claims.specs.Looking.{is_in_groups, form_looks_at, is_looked_at, form_looks_at_word, is_word_looked_at}
 use Rattle.claims.specs.declared.claim.Claim.{Claim}
 use Rattle.claims.specs.declared.claim.ClaimForm.{ClaimForm}
 use Rattle.claims.specs.declared.claim.ClaimForm.TheVariants as form
+use Rattle.claims.specs.declared.claim.StreamGroup.{StreamGroup}
+use Rattle.expectations.specs.MemoryWords.{is_compared}
 use Rattle.busy_streams.specs.ScheduleSpace.Quiet.{is_seen, stream_of_step, IsUnseenStep}
 use Rattle.schedule_verdicts.specs.KeptClaims.{all_hold}
 
@@ -87,12 +91,28 @@ module _ (looked_at : List Bool) (words : List ℕ) (image : ImageValue) (w : Wo
         ∙ (λ i. cond (same_at u i) 1 0 + same_count us i)
         ∙ sym (sum_by-cons (one_at w) u us)
 
+  same_groups : (gs : List StreamGroup)
+      → ((place : ℕ) → IsTrue (is_in_groups place gs) → IsTrue (slice_index_or looked_at place false))
+      → count_in_groups (after image w t) gs ≡ count_in_groups w gs
+  same_groups [] covers = refl
+  same_groups (g ∷ gs) covers =
+      let here : count_in_group (after image w t) g ≡ count_in_group w g =
+      same_count g.first g.last (λ place is. covers place (or_left (looking.is_in_range place g) (is_in_groups place gs) is))
+      g.streams.items in
+      let others = same_groups gs (λ place is. covers place (or_right (looking.is_in_range place g) (is_in_groups place gs) is)) in
+      sum_by-cons (count_in_group (after image w t)) g gs
+      ∙ (λ i. here i + others i)
+      ∙ sym (sum_by-cons (count_in_group w) g gs)
+
   same_form : (f : ClaimForm) → ((place : ℕ) → IsTrue (form_looks_at place f) → IsTrue (slice_index_or looked_at place false))
       → ((a : ℕ) → IsTrue (form_looks_at_word a f) → Contains words a)
       → form_holds (after image w t) f ≡ form_holds w f
   same_form (form.Word a test) covers named = ap (word_holds test) (free.cells a (named a (eq-eqb a a refl)))
-  same_form (form.AtMost most us first last) covers named =
-      ap (λ n. nat_le n most) (same_count first last covers us.items)
+  same_form (form.Compared a r b more) covers named =
+      let one = free.cells a (named a (or_left (a == a) (b == a) (eq-eqb a a refl))) in
+      let other = free.cells b (named b (or_right (a == b) (b == b) (eq-eqb b b refl))) in
+      λ i. is_compared r more (one i) (other i)
+  same_form (form.Streams test gs) covers named = ap (counts_so test) (same_groups gs.items covers)
 
   pub same_claims : (cs : List Claim)
       → ((place : ℕ) → IsTrue (is_looked_at cs place) → IsTrue (slice_index_or looked_at place false))

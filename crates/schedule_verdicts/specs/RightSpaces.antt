@@ -1,5 +1,5 @@
 -- Whether every schedule is right.
-use Rattle.std.specs.Prelude.{ℕ, ◌<◌, ◌++◌, Bool, false, List, IsTrue, slice_index_or}
+use Rattle.std.specs.Prelude.{ℕ, ◌<◌, ◌++◌, Bool, false, List, IsTrue, IsFalse, slice_index_or}
 use Rattle.std.specs.List.{Contains}
 use Rattle.image_file.specs.ImageValue.{ImageValue}
 use Rattle.processor.specs.World.{run}
@@ -10,14 +10,14 @@ use Rattle.claims.specs.declared.claim.Claim.{Claim}
 use Rattle.busy_streams.specs.ScheduleSpace.Spaces.{SpaceValue, count, world_of}
 use Rattle.busy_streams.specs.ScheduleSpace.Reaching.{IsEnd, CanEnd}
 use Rattle.busy_streams.specs.ScheduleSpace.Quiet.{AllFollowedQuietly}
-use Rattle.schedule_verdicts.specs.RightEnds.{IsRightEnd}
+use Rattle.schedule_verdicts.specs.RightEnds.{IsRightEnd, may_loop}
 use Rattle.schedule_verdicts.specs.KeptClaims.{all_hold, AreKept}
 
 -- Every schedule that goes on from the beginning: where it ends it ends right, and wherever it is it can still come to an
--- end.
+-- end, unless the program may go on for ever.
 pub record EndsRight (image : ImageValue) (begin : List Step) (expected : List Expectation) : Type 0 where
   pub ends : (ts : List Step) → IsEnd image (run image (begin ++ ts)) → IsRightEnd expected (run image (begin ++ ts))
-  pub reach : (ts : List Step) → CanEnd image (run image (begin ++ ts))
+  pub reach : IsFalse (may_loop expected) → (ts : List Step) → CanEnd image (run image (begin ++ ts))
 
 -- the same, and the claims hold wherever it leads
 pub record IsRightOnEachWay (image : ImageValue) (begin : List Step) (expected : List Expectation)
@@ -48,8 +48,8 @@ EndRight v expected = (k : ℕ) → k < count v → IsRightAt v expected k
 abbrev pub AllCanEnd : SpaceValue → Type 0
 AllCanEnd v = (k : ℕ) → k < count v → CanEnd v.image (world_of v k)
 
--- both, and the claims hold of each world of it
+-- both, the second one unless the program may go on for ever, and the claims hold of each world of it
 pub record IsRight (v : SpaceValue) (expected : List Expectation) (claims : List Claim) : Type 0 where
   pub ends : EndRight v expected
-  pub reach : AllCanEnd v
+  pub reach : IsFalse (may_loop expected) → AllCanEnd v
   pub kept : AreKept v claims

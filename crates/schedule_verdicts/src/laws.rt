@@ -10,8 +10,8 @@ ghost use Rattle.schedule_verdicts.specs.NamedRegisters.{AreAllNamed};
 ghost use Rattle.schedule_verdicts.specs.RightEnds.{IsRightEnd, are_met};
 
 /// Two worlds that agree, which is to differ in registers and condition codes alone that do not matter, meet the same
-/// expectations where the registers that these look at are named; the same traps are expected, and where no stream runs
-/// both are right ends or neither is. The same claims hold of both: claims look at no register and at no code.
+/// expectations where the registers that these look at are named; the same traps and waits are expected, and where nothing
+/// goes on both are right ends or neither is. The same claims hold of both: claims look at no register and at no code.
 pub fn agreeing_worlds_are_judged_alike()
     ensures met { (l : LiveValue) (a b : World) (expected : List Expectation) → AgreeBy l a b
         → AreAllNamed expected l.names → are_met a expected ≡ are_met b expected }

@@ -2,6 +2,7 @@
 #![tactic(auto)]
 
 mod claim_marks;
+mod expected_waits;
 mod kept_claims;
 mod laws;
 mod marking;
@@ -14,6 +15,7 @@ mod walks;
 pub use busy_streams as busy;
 pub use busy_streams::space;
 pub use claim_marks::ClaimMarks;
+pub use expected_waits::{are_waits_expected, may_loop};
 pub use kept_claims::are_kept_on_the_way;
 pub use laws::agreeing_worlds_are_judged_alike;
 pub use marking::{marks_of_kept, marks_of_shown};

@@ -6,19 +6,21 @@ ghost use Rattle.expectations.specs.Meeting.{stream_in};
 ghost use Rattle.schedule_verdicts.specs.NamedRegisters.{AreOfRegisters};
 ghost use Rattle.schedule_verdicts.specs.RightEnds.{IsRightEnd, AreTrapsExpected, are_met, is_trap_expected, is_stop_by, is_stop_expected};
 
+use crate::expected_waits::are_waits_expected;
 use expectations::{Expectation, is_met};
 use machine::Machine;
 use stream_core::{Status, Stream, TrapKind};
-use waiting::some_run;
 
-/// Whether a run that ends at the world of a machine ends right: no stream runs, all that is expected is so, and each
-/// trap that stopped a stream is one that is expected of it. Then no register is expected to hold something that no stream
-/// has.
+/// Whether a run ends right at the world of a machine from which nothing goes on: each stream that runs may wait where it
+/// stands, all that is expected is so, and each trap that stopped a stream is one that is expected of it. Then no register
+/// is expected to hold something that no stream has.
 pub fn is_right_end<const S: usize>(machine: &Machine<'_, S>, expected: &[Expectation]) -> bool
     ensures is { IsTrue result ↔ IsRightEnd expected.now machine.now.world }
     ensures registers { IsTrue result → AreOfRegisters expected.now }
 {
-    !some_run(machine) && are_met(machine, expected) && are_traps_expected(machine, expected)
+    are_waits_expected(machine, expected)
+        && are_met(machine, expected)
+        && are_traps_expected(machine, expected)
 }
 
 /// Whether all that is expected is so.
@@ -71,7 +73,11 @@ fn is_stop_expected<const S: usize>(
 }
 
 /// The stream of these numbers, where the machine has it.
-fn stream<'m, const S: usize>(machine: &'m Machine<'_, S>, p: u8, s: u8) -> Option<&'m Stream>
+pub(crate) fn stream<'m, const S: usize>(
+    machine: &'m Machine<'_, S>,
+    p: u8,
+    s: u8,
+) -> Option<&'m Stream>
     ensures { option_copied result ≡ stream_in machine.now.world p s }
 {
     if u16::from(s) >= machine.image().slim() {
@@ -106,6 +112,8 @@ fn is_stop_by(expectation: &Expectation, p: u8, s: u8, kind: TrapKind) -> bool
         | Expectation::Sum { .. }
         | Expectation::Compared { .. }
         | Expectation::Register { .. }
-        | Expectation::Finished => false,
+        | Expectation::Finished
+        | Expectation::Waits { .. }
+        | Expectation::Loops => false,
     }
 }

@@ -1,13 +1,15 @@
 //! Whether every schedule of an image comes to a right end.
 
-ghost use Rattle.std.specs.Prelude.{◌≡◌, ◌↔◌, ◌<◌, ◌⊎◌, IsTrue, IfOk, Err, ℕ};
+ghost use Rattle.std.specs.Prelude.{◌≡◌, ◌↔◌, ◌<◌, ◌⊎◌, IsTrue, IsFalse, IfOk, Err, ℕ};
 ghost use Rattle.busy_streams.specs.ScheduleSpace.Spaces.{count, world_of, IsComplete, HasAllEdges};
 ghost use Rattle.busy_streams.specs.ScheduleSpace.Reaching.{CanEnd};
 ghost use Rattle.busy_streams.specs.ScheduleSpace.Followed.{AllFollowed, HasAllEnds, TellsWhetherAllEnd};
 ghost use Rattle.schedule_verdicts.specs.NamedRegisters.{AreNamed, IsOfRegistersAt, EndOfRegisters};
+ghost use Rattle.schedule_verdicts.specs.RightEnds.{may_loop};
 ghost use Rattle.schedule_verdicts.specs.RightSpaces.{IsRight, IsRightAt, EndRight, AllCanEnd, EndsRight, IsRightOnEachWay};
 ghost use Rattle.schedule_verdicts.specs.RightSpaces.{IsFollowedForClaims};
 
+use crate::expected_waits::may_loop;
 use crate::kept_claims::are_kept;
 use crate::right_ends::is_right_end;
 use busy_streams::space::{Fate, Space};
@@ -16,9 +18,10 @@ use expectations::Expectation;
 use machine::LoadFault;
 use std::alloc::{AllocError, Global};
 
-/// Whether each end in a space is right, an end can be reached from each of its worlds, and the claims hold of each. Of a
-/// space that has all ends, and whose names are those of the registers that are expected to hold something, this is so only
-/// where every schedule that ends ends right, and each can still come to an end wherever it is; of one that has all worlds,
+/// Whether each end in a space is right, an end can be reached from each of its worlds unless the program may go on forever,
+/// and the claims hold of each. Of a space that has all ends, and whose names are those of the registers that are expected
+/// to hold something, this is so only where every schedule that ends ends right, and each can still come to an end wherever
+/// it is, unless the program may go on forever; of one that has all worlds,
 /// or that leaves out just steps at which the claims do not look, only where beside that the claims hold wherever a schedule
 /// leads. Where all that is so it is true, of a space of either kind.
 ///
@@ -52,7 +55,7 @@ pub fn is_right<const S: usize>(
     if !ends_are_right::<S>(alloc, space, expected)? {
         return Ok(false);
     }
-    if !all_can_end(alloc, space)? {
+    if !comes_to_ends(alloc, space, expected)? {
         return Ok(false);
     }
     are_kept::<S>(alloc, space, claims)
@@ -90,12 +93,29 @@ fn is_right_at<const S: usize>(
 {
     match space.fate(place) {
         Fate::GoesOn => Ok(true),
-        Fate::Deadlock => Ok(false),
-        Fate::Finished => {
+        Fate::Deadlock | Fate::Finished => {
             let machine = space.machine::<S>(alloc, place)?;
             Ok(is_right_end(&machine, expected))
         }
     }
+}
+
+/// Whether an end can be reached from each world of a space, or the program may go on forever.
+fn comes_to_ends(
+    alloc: Global,
+    space: &Space<'_>,
+    expected: &[Expectation],
+) -> Result<bool, AllocError>
+    ensures sound { IfOk result (λ b. IsTrue b → IsFalse (may_loop expected.now) → AllCanEnd space.now) }
+    ensures plain { IfOk result (λ b. IsComplete space.now → HasAllEdges space.now
+        → (IsFalse (may_loop expected.now) → AllCanEnd space.now) → IsTrue b) }
+    ensures followed { IfOk result (λ b. AllFollowed space.now
+        → (IsFalse (may_loop expected.now) → AllCanEnd space.now) → IsTrue b) }
+{
+    if may_loop(expected) {
+        return Ok(true);
+    }
+    all_can_end(alloc, space)
 }
 
 /// Whether an end can be reached from each world of a space.

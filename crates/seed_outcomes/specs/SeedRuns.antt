@@ -7,7 +7,7 @@ use Rattle.machine.specs.MachineValue.{MachineValue}
 use Rattle.schedule_makers.specs.Seeds.{rule_of_seed}
 use Rattle.schedule_makers.specs.Made.{IsMade}
 use Rattle.schedule_makers.specs.declared.made.MadeEnd.{MadeEnd}
-use Rattle.end_kinds.specs.Ends.{IsKindOf}
+use Rattle.space_ends.specs.EndStates.Judgements.{IsJudgedKind}
 use Rattle.expectations.specs.Meeting.{is_met}
 use Rattle.expectations.specs.declared.expectation.Expectation.{Expectation}
 use Rattle.claims.specs.declared.claim.Claim.{Claim}
@@ -45,7 +45,7 @@ pub record IsSeedRun (p : SurveyedProgram) (seed steps : ℕ) (j : EndJudgement)
   pub end : MadeEnd
   pub made : IsMade (rule_of_seed seed p.fair) (loaded p.image) machine p.most schedule end
   pub count : steps ≡ length schedule
-  pub kind : IsKindOf machine.image machine.world j.kind
+  pub kind : IsJudgedKind machine.image p.expected machine.world j.kind
   pub missed : j.missed ≡ position (λ x. not (is_met machine.world x)) p.expected
   pub broken : IsBrokenClaim p.image schedule p.claims j.broken
   pub trapped : IsFalse j.is_trapped ↔ AreTrapsExpected p.expected machine.world

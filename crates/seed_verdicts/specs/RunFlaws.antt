@@ -9,7 +9,8 @@ use Rattle.expectations.specs.Meeting.{is_met}
 use Rattle.expectations.specs.declared.expectation.Expectation.{Expectation}
 use Rattle.claims.specs.Holding.{holds}
 use Rattle.claims.specs.declared.claim.Claim.{Claim}
-use Rattle.schedule_verdicts.specs.RightEnds.{IsRightEnd, AreTrapsExpected}
+use Rattle.schedule_verdicts.specs.RightEnds.{IsRightEnd, AreTrapsExpected, AreWaitsExpected}
+use Rattle.schedule_verdicts.specs.ScheduleSpace.Reaching.{IsEnd}
 use Rattle.schedule_verdicts.specs.KeptClaims.{all_hold, AreKeptOnTheWay}
 use Rattle.seed_verdicts.specs.declared.run_flaw.RunFlaw.{RunFlaw}
 use Rattle.seed_verdicts.specs.declared.run_flaw.RunFlaw.TheVariants as flaw
@@ -28,18 +29,21 @@ pub record IsFirstBroken (image : ImageValue) (ts : List Step) (claims : List Cl
   pub broken : first_unkept claims (run image (take taken ts)) ≡ Some claim
   pub before : (k : ℕ) → k < taken → IsTrue (all_hold claims (run image (take k ts)))
 
--- A run by a schedule is right: its end is, and what is claimed holds of each world on its way, the start and the end too.
+-- A run by a schedule is right: nothing goes on from its end, that is right, and what is claimed holds of each world on its
+-- way, the start and the end too.
 pub record IsRightRun (image : ImageValue) (ts : List Step) (expected : List Expectation) (claims : List Claim)
     : Type 0 where
+  pub ended : IsEnd image (run image ts)
   pub end : IsRightEnd expected (run image ts)
   pub kept : AreKeptOnTheWay image ts claims
 
 -- A run by a schedule shows a flaw.
 abbrev pub Shows : ImageValue → List Step → List Expectation → List Claim → RunFlaw → Type 0
 Shows image ts expected claims flaw.Trap = ¬ AreTrapsExpected expected (run image ts)
-Shows image ts expected claims flaw.Deadlock = IsStandstill image (run image ts)
+Shows image ts expected claims flaw.Deadlock =
+    IsStandstill image (run image ts) × (¬ AreWaitsExpected expected (run image ts))
 Shows image ts expected claims (flaw.Missed place) =
-    (¬ SomeRuns (run image ts)) × (first_missed expected (run image ts) ≡ Some place)
+    IsEnd image (run image ts) × (first_missed expected (run image ts) ≡ Some place)
 Shows image ts expected claims (flaw.Broken taken claim) = IsFirstBroken image ts claims taken claim
 Shows image ts expected claims flaw.OutOfSteps = SomeRuns (run image ts) × (¬ IsStandstill image (run image ts))
 

@@ -5,9 +5,9 @@
 pub enum RunFlaw {
     /// At its end a trap that nobody expected has stopped a stream.
     Trap,
-    /// Some stream runs, and none that runs can go on.
+    /// Some stream runs that may not wait where it stands, and none that runs can go on.
     Deadlock,
-    /// No stream runs, and the end misses an expectation.
+    /// Nothing goes on, and the end misses an expectation.
     Missed {
         /// The place of the first that it misses among all, from 0.
         expectation: usize,

@@ -12,7 +12,7 @@ use Rattle.std.proofs.lemmas.List.Sums.{sum_by-cons, sum_by_push, sum_by-set}
 use Rattle.image_file.specs.ImageValue.{ImageValue}
 use Rattle.processor.specs.World.{World}
 use Rattle.processor.specs.declared.steps.Step.{Step}
-use Rattle.end_kinds.specs.Ends.{IsKindOf}
+use Rattle.end_states.specs.Judgements.{IsJudgedKind}
 use Rattle.end_kinds.specs.declared.kinds.EndKind.{EndKind}
 use Rattle.end_kinds.specs.declared.kinds.EndKind.TheVariants as end
 use Rattle.end_states.specs.declared.judgements.EndJudgement.{EndJudgement}
@@ -199,18 +199,23 @@ shortest v expected e in_order is i d below =
     let shown = in_order (slice_index e.places 0) (get_or e.places i d) least (is.within i d below) in
     omega (arith, same, shown)
 
-pub kind_ends : (image : ImageValue) (w : World) (k : EndKind) → IsKindOf image w k → are_ends (kind.End k) ≡ true
-kind_ends image w end.Finished is = refl
-kind_ends image w end.Stopped is = refl
-kind_ends image w end.Deadlock is = refl
-kind_ends image w end.Spinning is = absurd is
-kind_ends image w end.OutOfSteps is = refl
+pub kind_ends : (image : ImageValue) (expected : List Expectation) (w : World) (k : EndKind)
+    → IsJudgedKind image expected w k → are_ends (kind.End k) ≡ true
+kind_ends image expected w end.Finished is = refl
+kind_ends image expected w end.Stopped is = refl
+kind_ends image expected w end.Deadlock is = refl
+kind_ends image expected w end.Waiting is = refl
+kind_ends image expected w end.Spinning is = absurd is
+kind_ends image expected w end.Looping is = absurd is
+kind_ends image expected w end.OutOfSteps is = refl
 
 pub not_spinning : (k : SpaceEndKind) → are_ends k ≡ true → are_spinning k ≡ false
 not_spinning (kind.End end.Finished) is = refl
 not_spinning (kind.End end.Stopped) is = refl
 not_spinning (kind.End end.Deadlock) is = refl
+not_spinning (kind.End end.Waiting) is = refl
 not_spinning (kind.End end.Spinning) is = cc
+not_spinning (kind.End end.Looping) is = cc
 not_spinning (kind.End end.OutOfSteps) is = refl
 not_spinning (kind.Broken claim) is = refl
 not_spinning kind.Busy is = refl
@@ -218,7 +223,8 @@ not_spinning kind.Busy is = refl
 listed_ends : (v : SpaceValue) (expected : List Expectation) (n : ℕ) (e : ListedEnd) → IsListedEnd v expected n e
     → are_ends e.kind ≡ true
 listed_ends v expected n e is =
-    ap are_ends is.of_kind ∙ kind_ends v.image (world_of v (get_or e.places 0 0)) is.end_kind (is.each 0 0 is.some).kind
+    ap are_ends is.of_kind
+    ∙ kind_ends v.image expected (world_of v (get_or e.places 0 0)) is.end_kind (is.each 0 0 is.some).kind
 
 all_pass : (test : ListedEnd → Bool) (xs : List ListedEnd) → All (λ x. test x ≡ true) xs → filter test xs ≡ xs
 all_pass test [] all = refl
@@ -274,12 +280,13 @@ fate_goes_on image w fate.Deadlock is fails = absurd (cc)
 fate_goes_on image w fate.GoesOn is fails = λ ends. elim ends [ inl none ↦ none is.0 | inr still ↦ is.1 still ]
 
 pub judged_at : (v : SpaceValue) (expected : List Expectation) (n : ℕ) (m : MachineValue) (j : EndJudgement)
-    → m ≡ machine_after v.image (schedule_of v n) → IsEnd v.image (world_of v n) → IsKindOf m.image m.world j.kind
+    → m ≡ machine_after v.image (schedule_of v n) → IsEnd v.image (world_of v n)
+    → IsJudgedKind m.image expected m.world j.kind
     → j.missed ≡ missed_in m.world expected → (IsFalse j.is_trapped ↔ AreTrapsExpected expected m.world)
     → IsJudgedAt v expected n j.kind j.missed j.is_trapped
 judged_at v expected n m j at ends_there kind missed traps = record {
   ends = ends_there;
-  kind = subst (λ (x : MachineValue). IsKindOf x.image x.world j.kind) at kind;
+  kind = subst (λ (x : MachineValue). IsJudgedKind x.image expected x.world j.kind) at kind;
   missed = missed ∙ ap (λ (x : MachineValue). missed_in x.world expected) at;
   traps = subst (λ (x : MachineValue). IsFalse j.is_trapped ↔ AreTrapsExpected expected x.world) at traps;
 }

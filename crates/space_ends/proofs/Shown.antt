@@ -12,19 +12,22 @@ use Rattle.std.proofs.lemmas.List.Elements.{All-nil, All-push, All-append, All-s
 use Rattle.std.proofs.lemmas.List.Elements.{Contains-append_left, Contains-push}
 use Rattle.std.proofs.lemmas.Option.{same_Some}
 use Rattle.machine.specs.MachineValue.{MachineValue}
-use Rattle.end_kinds.specs.Ends.{IsKindOf}
+use Rattle.end_states.specs.Judgements.{IsJudgedKind}
 use Rattle.end_kinds.specs.declared.kinds.EndKind.{EndKind}
+use Rattle.end_kinds.specs.declared.kinds.EndKind.TheVariants as end
 use Rattle.changed_words.specs.Changed.{changed_words}
 use Rattle.seed_verdicts.specs.ScheduleSpace.Spaces.{SpaceValue, schedule_of, world_of, machine_after}
 use Rattle.expectations.specs.declared.expectation.Expectation.{Expectation}
-use Rattle.seed_verdicts.specs.ScheduleVerdicts.RightEnds.{AreTrapsExpected}
+use Rattle.seed_verdicts.specs.ScheduleVerdicts.RightEnds.{AreTrapsExpected, may_loop}
 use Rattle.end_states.specs.EndStates.{trap_stops, waiting_streams, IsEndState, AreSameStates}
 use Rattle.end_states.specs.declared.states.EndState.{EndState}
 use Rattle.space_ends.specs.EndsOfSpace.{are_ends, missed_in}
+use Rattle.space_ends.specs.Judging.{is_end_kind}
 use Rattle.space_ends.specs.Spinning.{are_spinning}
 use Rattle.space_ends.specs.Shown.{ShownEnd, shown_of, IsShownAt, IsNotAfter, IsMissedBySome, IsFirstMissedBy, IsSpinningSet}
 use Rattle.space_ends.specs.Shown.{IsShownSo, AreShownSo, shown_with, earlier}
 use Rattle.space_ends.specs.declared.end_values.SpaceEnd.{SpaceEnd}
+use Rattle.space_ends.specs.declared.end_values.SpaceEndKind.{SpaceEndKind}
 use Rattle.space_ends.specs.declared.end_values.SpaceEndKind.TheVariants as kind
 use Rattle.space_ends.proofs.Listing.{kind_ends, not_spinning}
 
@@ -42,6 +45,23 @@ shown_none v expected e spins ends = record {
   set = λ passes. let h : true ≡ false = sym passes ∙ spins in absurd (cc);
   end = λ passes. let h : true ≡ false = sym passes ∙ ends in absurd (cc);
 }
+
+-- what spins is no end at which runs end, but an end
+pub no_end : (k : SpaceEndKind) → are_spinning k ≡ true → are_ends k ≡ false
+no_end (kind.End end.Finished) is = cc
+no_end (kind.End end.Stopped) is = cc
+no_end (kind.End end.Deadlock) is = cc
+no_end (kind.End end.Waiting) is = cc
+no_end (kind.End end.Spinning) is = refl
+no_end (kind.End end.Looping) is = refl
+no_end (kind.End end.OutOfSteps) is = cc
+no_end (kind.Broken claim) is = cc
+no_end kind.Busy is = cc
+
+pub of_end_kind : (k : SpaceEndKind) → are_spinning k ≡ true → is_end_kind k ≡ true
+of_end_kind (kind.End k) is = refl
+of_end_kind (kind.Broken claim) is = cc
+of_end_kind kind.Busy is = cc
 
 -- a set that spins
 pub shown_set : (v : SpaceValue) (expected : List Expectation) (e : ShownEnd) → are_ends e.kind ≡ false
@@ -104,10 +124,10 @@ shown_alike v e n k is = record { stopped = is.stopped; waiting = is.waiting; ch
 
 -- the first end of a line
 pub shown_first : (v : SpaceValue) (expected : List Expectation) (n : ℕ) (m : MachineValue) (k : EndKind) (s : EndState)
-    (x : SpaceEnd) → m ≡ machine_after v.image (schedule_of v n) → IsKindOf m.image m.world k → IsEndState m s
+    (x : SpaceEnd) → m ≡ machine_after v.image (schedule_of v n) → IsJudgedKind m.image expected m.world k → IsEndState m s
     → x.kind ≡ kind.End k → x.state ≡ s → x.places.items ≡ n ∷ [] → IsShownSo v expected (shown_of x)
 shown_first v expected n m k s x at of_kind is kind state places =
-    let ends : are_ends x.kind ≡ true = ap are_ends kind ∙ kind_ends m.image m.world k of_kind in
+    let ends : are_ends x.kind ≡ true = ap are_ends kind ∙ kind_ends m.image expected m.world k of_kind in
     let here : IsShownAt v (shown_of x) n =
     shown_at v n m (shown_of x) s at is (ap (λ (y : EndState). y.stopped.items) state)
     (ap (λ (y : EndState). y.waiting.items) state) (ap (λ (y : EndState). y.changed.items) state) in
@@ -118,11 +138,11 @@ shown_first v expected n m k s x at of_kind is kind state places =
 -- an end with one place more, at which the world shows the same
 pub shown_line : (v : SpaceValue) (expected : List Expectation) (n : ℕ) (m : MachineValue) (k : EndKind) (s : EndState)
     (items : List SpaceEnd) (i : ℕ) (x y : SpaceEnd) → m ≡ machine_after v.image (schedule_of v n)
-    → IsKindOf m.image m.world k → IsEndState m s → AreShownSo v expected items → i < length items
+    → IsJudgedKind m.image expected m.world k → IsEndState m s → AreShownSo v expected items → i < length items
     → x ≡ get_or items i x → x.kind ≡ kind.End k → AreSameStates x.state s → shown_of y ≡ shown_with (shown_of x) n
     → AreShownSo v expected (set items i y)
 shown_line v expected n m k s items i x y at of_kind is all below there kind same more =
-    let ends : are_ends x.kind ≡ true = ap are_ends kind ∙ kind_ends m.image m.world k of_kind in
+    let ends : are_ends x.kind ≡ true = ap are_ends kind ∙ kind_ends m.image expected m.world k of_kind in
     let e = shown_of x in
     let before = shown_in v expected items i x all below there in
     let here : IsShownAt v e n = shown_at v n m e s at is same.stopped same.waiting same.changed in
@@ -221,14 +241,16 @@ missed_by_both v expected places more first one other = record {
 
 -- a set that spins with the worlds of another one that misses the same
 pub set_with : (v : SpaceValue) (expected : List Expectation) (e : ShownEnd) (more : List ℕ)
-    → IsSpinningSet v expected e → IsFirstMissedBy v expected more e.missed
+    → IsSpinningSet v expected e → (IsFalse (may_loop expected) → IsFirstMissedBy v expected more e.missed)
     → IsSpinningSet v expected (record e { places = e.places ++ more })
 set_with v expected e more is new =
     let long = length-append e.places more in
     let first : get_or (e.places ++ more) 0 0 ≡ get_or e.places 0 0 = get_or_append_left e.places more 0 0 is.some in
     record {
+      kind = is.kind;
       some = let some = is.some in omega (arith, long, some);
       stopped = subst (λ (k : ℕ). e.stopped ≡ trap_stops (world_of v k)) (sym first) is.stopped;
       traps = subst (λ (k : ℕ). IsFalse e.is_trapped ↔ AreTrapsExpected expected (world_of v k)) (sym first) is.traps;
-      missed = missed_by_both v expected e.places more e.missed is.missed new;
+      missed = λ must_end. missed_by_both v expected e.places more e.missed (is.missed must_end) (new must_end);
+      allowed = is.allowed;
     }

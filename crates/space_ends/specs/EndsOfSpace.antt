@@ -4,10 +4,10 @@ use Rattle.std.specs.Prelude.{List, length, map, slice_index, Option, None}
 use Rattle.std.specs.List.{All, AllPairs, filter, sum_by, count_by, position}
 use Rattle.processor.specs.World.{World}
 use Rattle.processor.specs.declared.steps.Step.{Step}
-use Rattle.end_kinds.specs.Ends.{IsKindOf}
 use Rattle.end_kinds.specs.declared.kinds.EndKind.{EndKind}
 use Rattle.end_kinds.specs.declared.kinds.EndKind.TheVariants as end
 use Rattle.end_states.specs.EndStates.{AreSameStates}
+use Rattle.end_states.specs.Judgements.{IsJudgedKind}
 use Rattle.end_states.specs.declared.judgements.EndJudgement.{EndJudgement}
 use Rattle.end_states.specs.declared.states.EndState.{EndState}
 use Rattle.expectations.specs.Meeting.{is_met}
@@ -41,7 +41,9 @@ abbrev pub are_ends : SpaceEndKind → Bool
 are_ends (kind.End end.Finished) = true
 are_ends (kind.End end.Stopped) = true
 are_ends (kind.End end.Deadlock) = true
+are_ends (kind.End end.Waiting) = true
 are_ends (kind.End end.Spinning) = false
+are_ends (kind.End end.Looping) = false
 are_ends (kind.End end.OutOfSteps) = true
 are_ends (kind.Broken claim) = false
 are_ends kind.Busy = false
@@ -59,8 +61,8 @@ pub record IsJudgedAt (v : SpaceValue) (expected : List Expectation) (k : ℕ) (
     (is_trapped : Bool) : Type 0 where
   -- a run ends there
   pub ends : IsEnd v.image (world_of v k)
-  -- it is an end of this kind
-  pub kind : IsKindOf v.image (world_of v k) end_kind
+  -- it is an end of this kind, beside what is expected
+  pub kind : IsJudgedKind v.image expected (world_of v k) end_kind
   -- this is the first expectation that it misses
   pub missed : first ≡ missed_in (world_of v k) expected
   -- no trap is reported exactly where each trap that stopped a stream is expected

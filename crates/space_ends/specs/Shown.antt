@@ -1,11 +1,12 @@
 -- What a listed end shows, and what a set of worlds that spins misses.
-use Rattle.std.specs.Prelude.{◌≡◌, ℕ, ◌<◌, ◌≤◌, ◌↔◌, Bool, true, IsFalse, List, [], ◌∷◌, ◌++◌, Contains, length, map, slice_index}
+use Rattle.std.specs.Prelude.{◌≡◌, ℕ, ◌<◌, ◌≤◌, ◌↔◌, Bool, true, IsTrue, IsFalse, if◌then◌else◌, List, [], ◌∷◌, ◌++◌, Contains, length, map, slice_index}
 use Rattle.std.specs.Prelude.{Option, Some, None, min}
 use Rattle.std.specs.List.{All}
+use Rattle.end_kinds.specs.declared.kinds.EndKind.{EndKind}
 use Rattle.end_kinds.specs.declared.kinds.EndKind.TheVariants as end
 use Rattle.seed_verdicts.specs.ScheduleSpace.Spaces.{SpaceValue, schedule_of, world_of, machine_after}
 use Rattle.expectations.specs.declared.expectation.Expectation.{Expectation}
-use Rattle.seed_verdicts.specs.ScheduleVerdicts.RightEnds.{AreTrapsExpected}
+use Rattle.seed_verdicts.specs.ScheduleVerdicts.RightEnds.{AreTrapsExpected, may_loop}
 use Rattle.changed_words.specs.Changed.{changed_words}
 use Rattle.changed_words.specs.declared.changed.ChangedWord.{ChangedWord}
 use Rattle.end_states.specs.EndStates.{trap_stops, waiting_streams}
@@ -66,16 +67,23 @@ pub record IsFirstMissedBy (v : SpaceValue) (expected : List Expectation) (place
   -- some world of them misses it
   pub shown : (i : ℕ) → first ≡ Some i → IsMissedBySome v expected places i
 
+-- the kind of sets that no step leads out of, and in which it goes on for ever: the program may do so, or not
+abbrev pub spinning_kind : List Expectation → EndKind
+spinning_kind expected = if may_loop expected then end.Looping else end.Spinning
+
 -- What a set that spins says is so.
 pub record IsSpinningSet (v : SpaceValue) (expected : List Expectation) (e : ShownEnd) : Type 0 where
+  -- its kind
+  pub kind : e.kind ≡ kind.End (spinning_kind expected)
   -- it has a world
   pub some : 0 < length e.places
   -- the streams that a trap stopped in its first world
   pub stopped : e.stopped ≡ trap_stops (world_of v (slice_index e.places 0))
   -- no trap is reported exactly if each of these traps is expected
   pub traps : IsFalse e.is_trapped ↔ AreTrapsExpected expected (world_of v (slice_index e.places 0))
-  -- the first expectation that any of its worlds misses
-  pub missed : IsFirstMissedBy v expected e.places e.missed
+  -- the first expectation that any of its worlds misses; none is missed where the program may go on so
+  pub missed : IsFalse (may_loop expected) → IsFirstMissedBy v expected e.places e.missed
+  pub allowed : IsTrue (may_loop expected) → e.missed ≡ None
 
 -- What a listed end says is so: of a set that spins, and of an end at each of its places.
 pub record IsShownSo (v : SpaceValue) (expected : List Expectation) (e : ShownEnd) : Type 0 where
@@ -88,9 +96,9 @@ AreShownSo v expected ends = All (IsShownSo v expected) (map shown_of ends)
 
 -- For the code.
 
--- A listed end is a set that spins, and this is what it misses.
-pub record IsOfLine (e : SpaceEnd) (first : Option ℕ) : Type 0 where
-  pub kind : e.kind ≡ kind.End end.Spinning
+-- A listed end is of this kind, and this is what it misses.
+pub record IsOfLine (e : SpaceEnd) (what : SpaceEndKind) (first : Option ℕ) : Type 0 where
+  pub kind : e.kind ≡ what
   pub missed : e.missed ≡ first
 
 -- the lesser of two places, which may be missing

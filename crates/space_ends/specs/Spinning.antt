@@ -15,7 +15,9 @@ abbrev pub are_spinning : SpaceEndKind → Bool
 are_spinning (kind.End end.Finished) = false
 are_spinning (kind.End end.Stopped) = false
 are_spinning (kind.End end.Deadlock) = false
+are_spinning (kind.End end.Waiting) = false
 are_spinning (kind.End end.Spinning) = true
+are_spinning (kind.End end.Looping) = true
 are_spinning (kind.End end.OutOfSteps) = false
 are_spinning (kind.Broken claim) = false
 are_spinning kind.Busy = false

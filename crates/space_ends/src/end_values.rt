@@ -2,6 +2,7 @@
 
 ghost use Rattle.std.specs.Prelude.{◌≡◌, IsTrue};
 ghost use Rattle.space_ends.specs.Judging.{is_end_kind, judgement_of, expected_end, end_status};
+ghost use Rattle.space_ends.specs.Spinning.{are_spinning};
 
 use crate::going::{Going, GoingStream};
 use end_kinds::{EndKind, Status};
@@ -12,7 +13,7 @@ use std::alloc::{AllocError, Global};
 /// What worlds of a space are.
 #[derive(Clone, Copy, Debug, PartialEq, Eq)]
 pub enum SpaceEndKind {
-    /// Ends of this kind; `Spinning` where no schedule from there comes to an end.
+    /// Ends of this kind; `Spinning` or `Looping` where no schedule from there comes to an end.
     End(EndKind),
     /// Worlds of which a claim does not hold.
     Broken {
@@ -50,6 +51,24 @@ impl SpaceEndKind {
         }
     }
 
+    /// Whether it goes on forever from these worlds: no schedule leads from there to an end.
+    pub fn is_endless(self) -> bool
+        ensures { result ≡ are_spinning self }
+    {
+        match self {
+            SpaceEndKind::End(EndKind::Spinning | EndKind::Looping) => true,
+            SpaceEndKind::End(
+                EndKind::Finished
+                | EndKind::Stopped
+                | EndKind::Deadlock
+                | EndKind::Waiting
+                | EndKind::OutOfSteps,
+            )
+            | SpaceEndKind::Broken { .. }
+            | SpaceEndKind::Busy => false,
+        }
+    }
+
     /// Whether they are ends of a kind.
     pub(crate) fn is_end_of(self, kind: EndKind) -> bool
         ensures { IsTrue result → self ≡ SpaceEndKind.End kind }
@@ -67,7 +86,8 @@ impl SpaceEndKind {
 pub struct SpaceEnd {
     /// The kind.
     pub kind: SpaceEndKind,
-    /// The place of the first expectation that is missed; of a set that spins, by any of its worlds.
+    /// The place of the first expectation that is missed; of a set that spins, by any of its worlds. None where the program
+    /// may go on so.
     pub missed: Option<usize>,
     /// The place of the first claim that is broken on the way of `schedule`, or of the one that these worlds break.
     pub broken: Option<usize>,

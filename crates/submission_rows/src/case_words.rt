@@ -2,7 +2,6 @@
 
 use crate::report_lines::CaseLines;
 use case_cells::{SpokenRange, SpokenWords, spoken_words};
-use end_kinds::EndKind;
 use expectation_files::Requirements;
 use expectation_messages::parts::made_by;
 use grade_rows::ReportLine;
@@ -15,7 +14,7 @@ use image_machines::by_room;
 use lab_requests::Maker;
 use lab_texts::{Notation, TextWriter};
 use processor::Step;
-use search_texts::ends_in_words::ends_of_space::{SpaceEnd, SpaceEndKind};
+use search_texts::ends_in_words::ends_of_space::SpaceEnd;
 use search_texts::ends_in_words::{
     WordRange, cycle_text, first_finding, going_text, state_text_of_run, text_of_end,
 };
@@ -181,7 +180,7 @@ impl CaseNotation<'_, '_> {
             lines,
             ..
         } = self;
-        if end.kind != SpaceEndKind::End(EndKind::Spinning) {
+        if !end.kind.is_endless() {
             return state_text_of_run(alloc, notation, image, &end.schedule, &end.state);
         }
         let mut words = cycle_text(alloc, notation.names, image, end)?;

@@ -72,7 +72,7 @@ function showChoices() {
     if (runs(w, k)) showChoice(choiceNodes[k], w, k);
   });
   const running = names.filter((_, k) => runs(w, k));
-  const isDead = kinds[endHere()] === "deadlock"; // then the result tells who waits for what
+  const isDead = isStill(data.ends[endHere()]); // then the result tells who waits for what
   byId("choices").hidden = isDead;
   const canStep = names.some((_, k) => runs(w, k) && !leadsNowhere(w, k));
   byId("choices-title").textContent = !canStep ? running.length ? "No stream can go on" : "No stream runs any more"

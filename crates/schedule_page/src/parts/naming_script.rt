@@ -41,7 +41,7 @@ function endWords(end, nameOf) {
   });
 }
 
-/** Who waits forever at a deadlock. */
+/** Who waits forever at a deadlock, or as it may. */
 const waitersText = (end) => `${and(end.waiting.map(([who]) => who))} wait${end.waiting.length > 1 ? "" : "s"} forever`;
 
 /** The streams that a trap stopped, at an end that has its name of something else. */
@@ -60,6 +60,8 @@ function endText(e) {
   if (end.kind === "finished") return `finished${tail}${foundText(e)}`;
   if (end.kind === "broken") return `a claim does not hold: ${end.text}`;
   if (end.kind === "deadlock") return `deadlock: ${waitersText(end)}${alsoStopped(end)}`;
+  if (end.kind === "waiting") return `waiting: ${waitersText(end)}${alsoStopped(end)}${tail}`;
+  if (end.kind === "looping") return `looping: it runs forever, as it may${alsoStopped(end)}`;
   if (end.kind === "stopped") return `stopped by a trap: ${and(end.stopped.map(([who]) => who))}`;
   return `spinning: it runs forever${alsoStopped(end)}`;
 }

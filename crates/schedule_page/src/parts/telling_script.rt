@@ -54,7 +54,10 @@ function resultTitle(e) {
   if (end.kind === "stopped") return `Stopped by a trap: ${stopped}`;
   if (end.kind === "broken") return `A claim does not hold here: ${end.text}`;
   if (end.kind === "spinning") return `It runs forever from here: no schedule ends it${alsoStopped(end)}`;
-  return `${end.right === null ? "Finished" : end.right ? "Finished, and right" : "Finished, but wrong"}${text}`;
+  const judged = end.right === null ? "" : end.right ? ", and right" : ", but wrong";
+  if (end.kind === "waiting") return `Waiting${judged}: ${waitersText(end)}${alsoStopped(end)}`;
+  if (end.kind === "looping") return `It runs forever, as it may${judged}${alsoStopped(end)}`;
+  return `Finished${judged}${text}`;
 }
 
 const quote = (text) => `“${text}”`;
@@ -90,7 +93,7 @@ function resultLines(e) {
   if (end.missed) lines.push(html("li", {}, "Expected: ", code(end.missed), "."));
   if (end.right && data.unjudged.length) lines.push(html("li", {}, `This page does not judge ${unjudgedText()}.`));
   lines.push(...brokenLines(here(), e));
-  if (end.kind === "deadlock") {
+  if (isStill(end)) {
     names.forEach((name, k) => {
       if (runs(here(), k)) lines.push(html("li", {}, html("b", {}, name), " ",
         ...waitParts(recordOf(here(), k), view.at), "."));

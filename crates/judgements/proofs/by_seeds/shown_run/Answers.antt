@@ -20,7 +20,7 @@ returns-clause-end g c =
       made =
           subst (λ (m : MachineValue). IsMade rule m machine c.args.asked.most schedule.steps.items schedule.end)
           c.in_ok-machine.ensures c.in_ok-seeded.ensures.made;
-      kind = c.in_ok-judged_end.ensures.kind;
+      kind = rw c.ends.ensures at c.in_ok-judged_end.ensures.kind;
       missed = rw c.ends.ensures at c.in_ok-judged_end.ensures.missed;
       trapped = rw c.ends.ensures at c.in_ok-judged_end.ensures.trapped;
       state = c.in_ok-judged_end.ensures.state;

@@ -1,4 +1,5 @@
 use Rattle.std.proofs.Common.{refl, rules}
+use Rattle.schedule_verdicts.specs.RightEnds.{is_stop_expected}
 use Rattle.schedule_verdicts.proofs.Looking.{one_more, all_looked_at}
 use Rattle.schedule_verdicts.proofs.right_ends.are_traps_expected.Goals as goal
 
@@ -14,13 +15,13 @@ returns-then-not-is_stop_expected g c = (
 
 pub loop-p-preserved : goal.loop-p-preserved
 loop-p-preserved g c =
-    one_more g.row.S c.args.machine.now c.args.expected.now c.loop-p.p c.loop-s.s c.image-image.ensures.kept
-    (search rules) c.loop-p.invariant c.loop-s.invariant
+    one_more (is_stop_expected c.args.expected.now) (λ p s. refl) g.row.S c.args.machine.now c.loop-p.p c.loop-s.s
+    c.image-image.ensures.kept (search rules) c.loop-p.invariant c.loop-s.invariant
 
 pub returns : goal.returns
 returns g c = (
   λ yes.
-      all_looked_at g.row.S c.args.machine.now c.args.expected.now c.loop-p.p c.image-image.ensures.kept
-      (search rules) c.loop-p.invariant,
+      all_looked_at (is_stop_expected c.args.expected.now) (λ p s. refl) g.row.S c.args.machine.now c.loop-p.p
+      c.image-image.ensures.kept (search rules) c.loop-p.invariant,
   λ all. refl,
 )

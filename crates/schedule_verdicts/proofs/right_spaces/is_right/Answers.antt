@@ -15,7 +15,7 @@ pub returns-clause-ends : goal.returns-clause-ends
 returns-clause-ends g c =
     let v = c.args.space.now in
     let ends = c.in_ok-ends_are_right.ensures.are.0 (search rules) in
-    let reach = c.in_ok-all_can_end.ensures.sound (search rules) in
+    let reach = c.in_ok-comes_to_ends.ensures.sound (search rules) in
     IfOk-weaker c.are_kept.result (λ b. IsTrue b ↔ AreKept v c.args.claims.now)
     (λ b. IsTrue b → AreNamed c.args.expected.now v.live.names → HasAllEnds v → TellsWhetherAllEnd v
     → EndsRight v.image v.begin c.args.expected.now)
@@ -29,7 +29,7 @@ pub returns-clause-each_way : goal.returns-clause-each_way
 returns-clause-each_way g c =
     let v = c.args.space.now in
     let ends = c.in_ok-ends_are_right.ensures.are.0 (search rules) in
-    let reach = c.in_ok-all_can_end.ensures.sound (search rules) in
+    let reach = c.in_ok-comes_to_ends.ensures.sound (search rules) in
     IfOk-weaker c.are_kept.result (λ b. IsTrue b ↔ AreKept v c.args.claims.now)
     (λ b. IsTrue b → IsComplete v → IsRightOnEachWay v.image v.begin c.args.expected.now c.args.claims.now)
     (λ b told yes.
@@ -41,7 +41,7 @@ pub returns-clause-shown : goal.returns-clause-shown
 returns-clause-shown g c =
     let v = c.args.space.now in
     let ends = c.in_ok-ends_are_right.ensures.are.0 (search rules) in
-    let reach = c.in_ok-all_can_end.ensures.sound (search rules) in
+    let reach = c.in_ok-comes_to_ends.ensures.sound (search rules) in
     IfOk-weaker c.are_kept.result (λ b. IsTrue b ↔ AreKept v c.args.claims.now)
     (λ b. IsTrue b → AreNamed c.args.expected.now v.live.names → IsFollowedForClaims v c.args.claims.now
     → IsRightOnEachWay v.image v.begin c.args.expected.now c.args.claims.now)
@@ -61,8 +61,8 @@ returns-then-not-branch-clause-only g c = λ taken right.
 pub returns-then-not-branch-2-clause-only : goal.returns-then-not-branch-2-clause-only
 returns-then-not-branch-2-clause-only g c = λ taken right.
     let whole = right_of_space c.args.space.now c.args.expected.now c.args.claims.now c.len-worlds.ensures.links right in
-    let told = c.in_ok-all_can_end.ensures in
-    let yes : IsTrue c.in_ok-all_can_end.field-0 =
+    let told = c.in_ok-comes_to_ends.ensures in
+    let yes : IsTrue c.in_ok-comes_to_ends.field-0 =
     elim taken [
       | inl all ↦ told.plain all.0 all.1 whole.reach
       | inr followed ↦ told.followed followed whole.reach

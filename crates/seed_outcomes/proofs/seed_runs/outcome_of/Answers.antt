@@ -19,7 +19,7 @@ returns-clause-run g c =
           (rule_of_seed c.args.seed s.fair_steps) m c.seeded.new.machine s.most made.steps.items made.end)
           c.in_ok-machine.ensures c.in_ok-made.ensures.made;
       count = count;
-      kind = c.in_ok-end.ensures.kind;
+      kind = rw c.ends.ensures at c.in_ok-end.ensures.kind;
       missed = rw c.ends.ensures at c.in_ok-end.ensures.missed;
       broken = rw (c.claims.ensures, c.deref.ensures.value) at c.in_ok-broken.ensures;
       trapped = rw c.ends.ensures at c.in_ok-end.ensures.trapped;

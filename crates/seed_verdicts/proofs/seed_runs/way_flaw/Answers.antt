@@ -14,6 +14,6 @@ pub returns-in-OutOfSteps-clause-told : goal.returns-in-OutOfSteps-clause-told
 returns-in-OutOfSteps-clause-told g c =
     let j = c.args.judging.now in
     let w = run j.image.now c.args.steps.now in
+    let bound = subst (IsEnd j.image.now w) c.in-OutOfSteps.is c.requires.end in
     out_of_steps j.image.now c.args.steps.now j.expected.now j.claims.now c.requires.flawless
-    (rw c.in_default.is at c.in_ok-broken.ensures.told)
-    (subst (IsEnd j.image.now w) c.in-OutOfSteps.is c.requires.end).0
+    (rw c.in_default.is at c.in_ok-broken.ensures.told) bound.0 bound.1

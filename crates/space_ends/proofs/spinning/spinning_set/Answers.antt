@@ -1,4 +1,4 @@
-use Rattle.std.proofs.Common.{◌≡◌, ◌∙◌, ◌<◌, ℕ, List, length, ap, sym, subst, rules}
+use Rattle.std.proofs.Common.{◌≡◌, ◌∙◌, ◌<◌, ℕ, List, Option, length, ap, sym, subst, rules}
 use Rattle.std.specs.Prelude.{◌↔◌, IsFalse, not, slice_index}
 use Rattle.processor.specs.World.{World}
 use Rattle.machine.specs.MachineValue.{MachineValue}
@@ -24,6 +24,7 @@ returns-clause-set g c = λ more.
     world ∙ sym (ap (λ (ks : List ℕ). world_of v (slice_index ks 0)) items) in
     let unexpected = not c.are_traps_expected.result in
     record {
+      kind = c.in_ok-end.ensures.kind ∙ c.spinning_kind.ensures.is;
       some = subst (λ (ks : List ℕ). 0 < length ks) (sym items) more;
       stopped =
           ap (λ (s : EndState). s.stopped.items) c.in_ok-end.ensures.state ∙ c.in_ok-trap_stops.ensures
@@ -32,7 +33,9 @@ returns-clause-set g c = λ more.
           subst (λ (w : World). IsFalse unexpected ↔ AreTrapsExpected expected w) here
           (flipped c.are_traps_expected.result (AreTrapsExpected expected c.in_ok-machine.machine.world)
           c.are_traps_expected.ensures);
-      missed =
-          subst (λ (ks : List ℕ). IsFirstMissedBy v expected ks c.in_ok-known.known.missed) (sym items)
-          c.in_ok-known.ensures;
+      missed = λ must_end.
+          subst (λ (o : Option ℕ). IsFirstMissedBy v expected listed o) (sym (c.missed_by-end.ensures.must_end must_end))
+          (subst (λ (ks : List ℕ). IsFirstMissedBy v expected ks c.in_ok-known.known.missed) (sym items)
+          c.in_ok-known.ensures);
+      allowed = c.missed_by-end.ensures.allowed;
     }

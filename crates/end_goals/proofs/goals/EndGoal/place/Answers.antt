@@ -2,7 +2,7 @@ use Rattle.std.proofs.Common.{◌≡◌, ◌∙◌, refl, sym, subst, inl, inr}
 use Rattle.std.specs.List.{position}
 use Rattle.end_goals.specs.Goals.{is_goal, place_of_goal}
 use Rattle.end_goals.specs.declared.goals.EndGoal.{EndGoal}
-use Rattle.end_goals.specs.declared.goals.EndGoal.TheVariants.{Right, Wrong, Finished, Stopped, Deadlock, Spinning, Broken}
+use Rattle.end_goals.specs.declared.goals.EndGoal.TheVariants.{Right, Wrong, Finished, Stopped, Deadlock, Waiting, Spinning, Looping, Broken}
 use Rattle.end_goals.proofs.goals.EndGoal.place.Goals as goal
 
 pub returns-in-Right : goal.returns-in-Right
@@ -21,6 +21,8 @@ returns-in-Right c =
       | inr (inr (inl same)) ↦ by Finished refl same
       | inr (inr (inr (inl same))) ↦ by Stopped refl same
       | inr (inr (inr (inr (inl same)))) ↦ by Deadlock refl same
-      | inr (inr (inr (inr (inr (inl same))))) ↦ by Spinning refl same
-      | inr (inr (inr (inr (inr (inr same))))) ↦ by Broken refl same
+      | inr (inr (inr (inr (inr (inl same))))) ↦ by Waiting refl same
+      | inr (inr (inr (inr (inr (inr (inl same)))))) ↦ by Spinning refl same
+      | inr (inr (inr (inr (inr (inr (inr (inl same))))))) ↦ by Looping refl same
+      | inr (inr (inr (inr (inr (inr (inr (inr same))))))) ↦ by Broken refl same
     ]
