@@ -1,6 +1,6 @@
 """What a file of expectations requires, by docs/LAB_REFERENCE.md ("Files of expectations", "Claims", "Rules of programs"):
 lines about ends and claims, as tests/spaces has them, and rules of programs. Of the forms that are there these are read: `word`,
-`sum` and `finished`; claims on words; all rules."""
+`sum` and `finished`; claims on one word or on two; all rules."""
 
 import os
 import re
@@ -44,6 +44,8 @@ def words_of(form, operands):
     """The words of which a line of a form speaks."""
     if form == "finished":
         return []
+    if form == "beside":
+        return [operands[0], operands[2]]
     return list(range(operands[0], operands[1] + 1)) if form == "sum" else [operands[0]]
 
 
@@ -94,6 +96,11 @@ def line_of(line, words):
             is_signed = form != "is" and value[0] in "+-"
             value = int(value, 0) if is_signed else number(value)
             return expectations.Claim(line, scope, form, (words.of_program(address), value, is_signed))
+        case [("always" | "never" | "some") as scope, "word", one, ("is" | "above" | "below") as form, "word", other, *rest]:
+            is_signed = rest[-1:] == ["signed"]
+            more = number(rest[1]) if rest[:1] == ["+"] else 0
+            operands = (words.of_program(one), form, words.of_program(other), more, is_signed)
+            return expectations.Claim(line, scope, "beside", operands)
         case ["entries", count]:
             return Rule("entries", (int(count),))
         case ["at", "most", count, "words"]:

@@ -31,7 +31,7 @@ def against(wanted, world, kind):
     """The verdict of an end; None where it is as the lines about ends say."""
     if expectations.is_trapped(wanted.ends, world):
         return "trap"
-    if kind == "deadlock":
+    if expectations.kind_of(wanted.ends, world, kind) == "deadlock":
         return "deadlock"
     return WRONG if expectations.missed(wanted.ends, world) else None
 

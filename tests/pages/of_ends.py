@@ -128,10 +128,23 @@ def missed(page):
         page.quiet(f"missed_{name}")
 
 
+def allowed(page):
+    """What the page says of streams that wait forever, as they may."""
+    source, schedule = (pathlib.Path(page.folder) / f"allowed.{kind}" for kind in ("asm", "schedule"))
+    source.write_text(program(EMPTY, WAITS))
+    schedule.write_text("0 0 2\n")
+    run = runs.run_of(runs.page_of(page.folder, source, schedule))
+    page.open("allowed", runs.page({**run, "expected": True}))
+    _, heading, _, _ = page.script(SHOWN)
+    tally.same("allowed: it is no deadlock", heading, "0.0 waits forever, as expected")
+    page.quiet("allowed")
+
+
 def part(page):
     if not runs.has_pages():
         return
     missed(page)
+    allowed(page)
     for name, (text, turns, step, title, drawn) in CASES.items():
         source, schedule = (pathlib.Path(page.folder) / f"{name}.{kind}" for kind in ("asm", "schedule"))
         source.write_text(text)

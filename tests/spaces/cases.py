@@ -20,6 +20,8 @@ LEAST, MOST, TRIES = 8, 300, 200
 APART = 4
 # the verdict of `grade --explore` where no end and no claim is against a program
 SPINS, RIGHT = "spins", "right"
+# the kinds of endless loops
+ENDLESS = ("spinning", "looping")
 # how a program is surveyed
 SURVEY = ("survey", "--seeds", "4", "--steps", "60", "--explore", "--json")
 
@@ -206,7 +208,7 @@ class Case:
         run that ran out of steps has it too.)"""
         outcomes = [told for told in objects if told["object"] == "outcome"]
         coverage = objects[-1]
-        ends = {(shown.by_world(self.space, world), line_missed(expected, world)) for world in self.space.ends()}
+        ends = {(shown.by_world(self.space, world, expected), line_missed(expected, world)) for world in self.space.ends()}
         reached = {(shown.by_object(told), told["missed"] and told["missed"]["line"])
                    for told in outcomes if told["end"] != "steps"}
         yield differs("what seeds reach that is no end", reached - ends, set())
@@ -230,11 +232,11 @@ class Case:
         ends = self.space.ends()
         if any(expectations.is_trapped(expected, world) for world in [*ends, *itertools.chain(*self.space.spinning())]):
             return "trap"
-        if "deadlock" in ends.values():
+        if "deadlock" in {expectations.kind_of(expected, world, kind) for world, kind in ends.items()}:
             return "deadlock"
         if any(expectations.missed(expected, world) for world in ends) or broken(self.space, claims) or is_busy:
             return "wrong"
-        if self.space.spinning():
+        if self.space.spinning() and not expectations.may_loop(expected):
             return SPINS
         return "wrong" if unshown(self.space, claims) else RIGHT
 
@@ -275,13 +277,14 @@ def unshown(space, claims):
 def statuses(space, expected, claims):
     """The status of each end, of what spins, and of claims that are broken, or that no world shows."""
     for world, kind in space.ends().items():
-        if kind == "deadlock":
+        if expectations.kind_of(expected, world, kind) == "deadlock":
             yield search.DEADLOCK
         elif expectations.is_trapped(expected, world) or expectations.missed(expected, world):
             yield search.UNEXPECTED
     for spinning in space.spinning():
         is_trapped = any(expectations.is_trapped(expected, world) for world in spinning)
-        yield search.UNEXPECTED if is_trapped else search.ENDLESS
+        goes_on = search.DONE if expectations.may_loop(expected) else search.ENDLESS
+        yield search.UNEXPECTED if is_trapped else goes_on
     if broken(space, claims) or unshown(space, claims):
         yield search.UNEXPECTED
 
@@ -291,7 +294,7 @@ def of_fewer(alone, head, ends):
     the worlds steps lead to an end that is one of them."""
     yield differs("head", (head["complete"], head["worlds"], head["steps"]), (True, len(alone.worlds), len(alone.steps)))
     for end in ends:
-        if end["end"] not in ("spinning", "broken") and end["worlds"] == 1:
+        if end["end"] not in (*ENDLESS, "broken") and end["worlds"] == 1:
             world = search.world_after(alone.program, steps_of(end["schedule"]))
             yield differs("sources", end["from"], alone.leading_to(world))
 
@@ -305,11 +308,13 @@ def of_each_end(space, expected, claims, ends, told_as=lambda world: world):
         alike[key] = min(alike.get(key, world), world, key=space.distance.get)
     wanted, told = {}, {}
     for world in alike.values():
-        key = space.kind(world), expectations.is_as_expected(expected, world, space.kind(world))
+        key = kind_beside(space, expected, world), expectations.is_as_expected(expected, world, space.kind(world))
         count, least = wanted.get(key, (0, space.distance[world]))
         wanted[key] = count + 1, min(least, space.distance[world])
     for end in ends:
-        if end["end"] in ("spinning", "broken"):
+        if end["end"] in ENDLESS:
+            yield differs("whether it may loop", end["end"] == "looping", expectations.may_loop(expected))
+        if end["end"] in (*ENDLESS, "broken"):
             continue
         world = search.world_after(space.program, steps_of(end["schedule"]))
         key = end["end"], expectations.is_as_expected(expected, world, space.kind(world))
@@ -319,7 +324,7 @@ def of_each_end(space, expected, claims, ends, told_as=lambda world: world):
         yield differs("the claim of an end", end["claim"] and end["claim"]["text"], on_its_way and on_its_way.text)
         yield differs("whether it is as expected", end["expected"], key[1] and on_its_way is None)
         first = alike.get(told_as(world))
-        yield differs("a schedule", (first and space.kind(world), len(steps_of(end["schedule"])), end["shortest"]),
+        yield differs("a schedule", (first and kind_beside(space, expected, world), len(steps_of(end["schedule"])), end["shortest"]),
                       (end["end"], first and space.distance[first], first and space.distance[first]))
         missed = expectations.missed(expected, world)
         wanted_line = missed and (expected.index(missed) + 1, expectations.numbers_read(missed.text))
@@ -327,6 +332,11 @@ def of_each_end(space, expected, claims, ends, told_as=lambda world: world):
         yield differs("what is missed", told_line, wanted_line)
         yield from of_world(space, world, end)
     yield differs("worlds and shortest of the ends", told, wanted)
+
+
+def kind_beside(space, expected, world):
+    """The kind of the end that a world is, beside what is expected."""
+    return expectations.kind_of(expected, world, space.kind(world))
 
 
 def of_world(space, world, end):
@@ -346,7 +356,7 @@ def of_judgement(space, expected, told):
     """In what an end that seeds reached is judged otherwise than each of the worlds that are shown alike."""
     if told["end"] == "steps":
         return None
-    alike = [world for world in space.ends() if shown.by_world(space, world) == shown.by_object(told)]
+    alike = [world for world in space.ends() if shown.by_world(space, world, expected) == shown.by_object(told)]
     judged = {(line_missed(expected, world), expectations.is_as_expected(expected, world, space.kind(world))
                and told["claim"] is None) for world in alike}
     found = told["missed"] and told["missed"]["line"], told["expected"]

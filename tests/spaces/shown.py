@@ -1,5 +1,6 @@
 """What ends and endless loops show: by the worlds of the tests' own search, and by the objects of mta_lab."""
 
+import expectations
 import machine
 import memory as store
 import search
@@ -23,12 +24,14 @@ def can_go_on(program, world, p, s):
     return outcome != "blocked" or after != world
 
 
-def by_world(space, world):
-    """What tells the lines of ends apart: the kind, who was stopped, who waits for which word, and the words that differ."""
+def by_world(space, world, expected):
+    """What tells the lines of ends apart: the kind beside what is expected, who was stopped, who waits for which word, and the
+    words that differ."""
     waiting = [] if space.kind(world) != "deadlock" else machine.running(world)
     waits = tuple((f"{p}.{s}", awaited(space.program, world, p, s)) for p, s in waiting)
     stopped = tuple(sorted((f"{p}.{s}", trap) for (p, s), trap in search.stopped(world).items()))
-    return space.kind(world), stopped, waits, str(changed_words(space.program, world))
+    kind = expectations.kind_of(expected, world, space.kind(world))
+    return kind, stopped, waits, str(changed_words(space.program, world))
 
 
 def awaited(program, world, p, s):
