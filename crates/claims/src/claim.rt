@@ -12,6 +12,15 @@ pub struct Claim {
     pub form: ClaimForm,
 }
 
+/// That one condition leads to another: wherever `from` holds, `to` holds at once or comes to hold.
+#[derive(Drop)]
+pub struct LeadsTo {
+    /// The first condition.
+    pub from: ClaimForm,
+    /// The one that has to come.
+    pub to: ClaimForm,
+}
+
 /// Of how many worlds something has to hold.
 #[derive(Clone, Copy, Debug, PartialEq, Eq)]
 pub enum Scope {

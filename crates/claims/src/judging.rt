@@ -44,7 +44,7 @@ impl Claim {
 
 impl ClaimForm {
     /// Whether it holds of the world of a machine.
-    fn holds<const S: usize>(&self, machine: &Machine<'_, S>) -> bool
+    pub fn holds<const S: usize>(&self, machine: &Machine<'_, S>) -> bool
         ensures { result ≡ form_holds machine.now.world self.now }
     {
         match self {

@@ -1,2 +1,3 @@
 -- Lemmas that several proofs share.
 mod Telling
+mod AllAreKept

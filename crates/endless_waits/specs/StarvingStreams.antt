@@ -1,3 +1,3 @@
 -- Definitions of starving_streams that callers name, passed on.
-pub use Rattle.starving_streams.specs.Reports
-pub use Rattle.starving_streams.specs.Starving
+pub use Rattle.run_answers.specs.StarvingStreams.Reports
+pub use Rattle.run_answers.specs.StarvingStreams.Starving

@@ -1,3 +1,3 @@
 -- Types of starving_streams that callers name, passed on.
-pub use Rattle.starving_streams.specs.declared.reports.Starving
-pub use Rattle.starving_streams.specs.declared.reports.StarvingStreams
+pub use Rattle.run_answers.specs.StarvingStreamsTypes.Starving
+pub use Rattle.run_answers.specs.StarvingStreamsTypes.StarvingStreams

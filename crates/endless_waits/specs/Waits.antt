@@ -4,10 +4,11 @@ use Rattle.image_file.specs.ImageValue.{ImageValue}
 use Rattle.processor.specs.declared.steps.Step.{Step}
 use Rattle.end_kinds.specs.declared.statuses.Status.{Status}
 use Rattle.end_kinds.specs.declared.statuses.Status.TheVariants as status
-use Rattle.starving_streams.specs.ScheduleSpace.Spaces.{SpaceValue}
-use Rattle.starving_streams.specs.Starving.{NobodyWaits}
-use Rattle.starving_streams.specs.Reports.{HasAllStates, TellsWhoStarves}
-use Rattle.starving_streams.specs.declared.reports.Starving.{Starving}
+use Rattle.run_answers.specs.StarvingStreams.ScheduleSpace.Spaces.{SpaceValue}
+use Rattle.run_answers.specs.StarvingStreams.Starving.{NobodyWaits}
+use Rattle.run_answers.specs.ConditionsTypes.Rest.{Rest}
+use Rattle.run_answers.specs.StarvingStreams.Reports.{HasAllStates, TellsWhoStarves}
+use Rattle.run_answers.specs.StarvingStreamsTypes.Starving.{Starving}
 use Rattle.endless_waits.specs.declared.extents.SearchExtent.{SearchExtent}
 use Rattle.endless_waits.specs.declared.extents.SearchExtent.TheVariants as extent
 use Rattle.endless_waits.specs.declared.unanswered.Unanswered.{Unanswered}
@@ -66,16 +67,20 @@ shown_in (waits.Unanswered u) = []
 abbrev pub status_of_waits : EndlessWaits → Status
 status_of_waits w = if is_nobody w then status.Done else status.OutOfSteps
 
--- An answer tells who can wait forever; that it was not asked says nothing.
-abbrev pub TellsWhoWaits : ImageValue → List Step → EndlessWaits → Type 0
-TellsWhoWaits image begin (waits.Answered r) = TellsWhoStarves image begin r
-TellsWhoWaits image begin (waits.Unanswered u) = ⊤
+-- of a search: as of who waits, if that was asked
+abbrev pub status_if : Bool → EndlessWaits → Status
+status_if asked w = if asked then status_of_waits w else status.Done
 
--- What is said of who can wait forever is so of a program whose schedules begin so.
-pub record IsSoOfWaits (image : ImageValue) (begin : List Step) (w : EndlessWaits) : Type 0 where
+-- An answer tells who can wait forever; that it was not asked says nothing.
+abbrev pub TellsWhoWaits : ImageValue → List Step → List Rest → EndlessWaits → Type 0
+TellsWhoWaits image begin rests (waits.Answered r) = TellsWhoStarves image begin rests r
+TellsWhoWaits image begin rests (waits.Unanswered u) = ⊤
+
+-- What is said of who can wait forever is so of a program whose schedules begin so, and whose streams may rest so.
+pub record IsSoOfWaits (image : ImageValue) (begin : List Step) (rests : List Rest) (w : EndlessWaits) : Type 0 where
   -- Each stream that is shown can wait forever, and each that can is shown or left undecided.
-  pub tells : TellsWhoWaits image begin w
+  pub tells : TellsWhoWaits image begin rests w
   -- If it says that nobody can, nobody can.
-  pub nobody : IsTrue (is_nobody w) → NobodyWaits image begin
+  pub nobody : IsTrue (is_nobody w) → NobodyWaits image begin rests
   -- If nobody can, it shows no stream.
-  pub only : NobodyWaits image begin → shown_in w ≡ []
+  pub only : NobodyWaits image begin rests → shown_in w ≡ []

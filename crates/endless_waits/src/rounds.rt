@@ -4,7 +4,7 @@ use image_file::Image;
 use image_machines::{by_room, loaded};
 use machine::Machine;
 use processor::Step;
-use starving_streams::Starving;
+use run_answers::starving::Starving;
 use std::alloc::{AllocError, Global};
 use stream_core::Outcome;
 use waiting::{Wait, wait_of};

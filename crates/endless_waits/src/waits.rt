@@ -1,18 +1,19 @@
 //! Who can wait forever, among the states that a search found.
 
 ghost use Rattle.std.specs.Prelude.{◌≡◌, IsTrue, IfOk, []};
-ghost use Rattle.starving_streams.specs.ScheduleSpace.Spaces.{count};
-ghost use Rattle.starving_streams.specs.Starving.{NobodyWaits};
-ghost use Rattle.starving_streams.specs.Reports.{HasAllStates, TellsWhoStarves};
-ghost use Rattle.endless_waits.specs.Waits.{HasExtent, why_not, why_not_in, is_nobody, shown_in, status_of_waits, TellsWhoWaits};
+ghost use Rattle.run_answers.specs.StarvingStreams.ScheduleSpace.Spaces.{count};
+ghost use Rattle.run_answers.specs.StarvingStreams.Starving.{NobodyWaits};
+ghost use Rattle.run_answers.specs.StarvingStreams.Reports.{HasAllStates, TellsWhoStarves};
+ghost use Rattle.endless_waits.specs.Waits.{HasExtent, why_not, why_not_in, is_nobody, shown_in, status_of_waits, status_if, TellsWhoWaits};
 
 use crate::extents::SearchExtent;
 use crate::unanswered::{Unanswered, why_not};
 use end_kinds::Status;
 use image_machines::by_room;
 use machine::LoadFault;
-use starving_streams::space::Space;
-use starving_streams::{StarvingStreams, starving_streams};
+use run_answers::Rest;
+use run_answers::starving::space::Space;
+use run_answers::starving::{StarvingStreams, starving_streams};
 use std::alloc::{AllocError, Global};
 
 /// Who can wait forever.
@@ -47,46 +48,63 @@ impl EndlessWaits {
             Status::OutOfSteps
         }
     }
+
+    /// What it means for the exit status of a search: nothing, unless it was asked, or is required, that nobody can.
+    pub fn status_if(&self, is_asked: bool) -> Status
+        ensures { result ≡ status_if is_asked self.now }
+    {
+        if is_asked {
+            self.status()
+        } else {
+            Status::Done
+        }
+    }
 }
 
-/// Who can wait forever, by the states of a space, whose search went so far: it is asked exactly if the search has all
-/// states, and they are no more than `MOST_STATES`. Then each stream that can is shown, with a schedule and a round in which
-/// it starves, or is named as undecided. So if it says that nobody can, no round that is fair by words leaves a stream
-/// waiting; and if nobody can, it shows no stream.
+/// Who can wait forever, where these streams may rest, by the states of a space, whose search went so far: it is asked
+/// exactly if the search has all states, and they are no more than `MOST_STATES`. Then each stream that can is shown,
+/// with a schedule and a round in which it starves, or is named as undecided. So if it says that nobody can, no round
+/// that is fair by words leaves a stream waiting; and if nobody can, it shows no stream.
 pub fn endless_waits(
     alloc: Global,
     space: &Space<'_>,
     extent: SearchExtent,
+    rests: &[Rest],
 ) -> Result<EndlessWaits, AllocError>
     ensures asked { IfOk result (λ w. why_not_in w ≡ why_not extent (count space.now)) }
     ensures tells { IfOk result (λ w. HasExtent extent space.now
-        → TellsWhoWaits space.now.image space.now.begin w) }
+        → TellsWhoWaits space.now.image space.now.begin rests.now w) }
     ensures nobody { IfOk result (λ w. HasExtent extent space.now → IsTrue (is_nobody w)
-        → NobodyWaits space.now.image space.now.begin) }
-    ensures only { IfOk result (λ w. HasExtent extent space.now → NobodyWaits space.now.image space.now.begin
+        → NobodyWaits space.now.image space.now.begin rests.now) }
+    ensures only { IfOk result (λ w. HasExtent extent space.now → NobodyWaits space.now.image space.now.begin rests.now
         → shown_in w ≡ []) }
 {
     if let Some(reason) = why_not(extent, space.len()) {
         return Ok(EndlessWaits::Unanswered(reason));
     }
-    Ok(EndlessWaits::Answered(starving_in(alloc, space)?))
+    Ok(EndlessWaits::Answered(starving_in(alloc, space, rests)?))
 }
 
 /// The streams that can wait forever, by the worlds of a space.
-fn starving_in(alloc: Global, space: &Space<'_>) -> Result<StarvingStreams, AllocError>
-    ensures { IfOk result (λ r. HasAllStates space.now → TellsWhoStarves space.now.image space.now.begin r) }
+fn starving_in(
+    alloc: Global,
+    space: &Space<'_>,
+    rests: &[Rest],
+) -> Result<StarvingStreams, AllocError>
+    ensures { IfOk result (λ r. HasAllStates space.now → TellsWhoStarves space.now.image space.now.begin rests.now r) }
 {
-    by_room!(space.image(), starving_on(alloc, space))
+    by_room!(space.image(), starving_on(alloc, space, rests))
 }
 
 /// The same on machines with room for `S` streams a processor.
 fn starving_on<const S: usize>(
     alloc: Global,
     space: &Space<'_>,
+    rests: &[Rest],
 ) -> Result<StarvingStreams, AllocError>
-    ensures { IfOk result (λ r. HasAllStates space.now → TellsWhoStarves space.now.image space.now.begin r) }
+    ensures { IfOk result (λ r. HasAllStates space.now → TellsWhoStarves space.now.image space.now.begin rests.now r) }
 {
-    match starving_streams::<S>(alloc, space) {
+    match starving_streams::<S>(alloc, space, rests) {
         Ok(found) => Ok(found),
         Err(LoadFault::NoMemory | LoadFault::Streams) => Err(AllocError),
     }

@@ -5,3 +5,5 @@ pub mod Bypassing
 pub mod Removal
 pub mod Checks
 pub mod Starved
+pub mod Ways
+pub mod Entering

@@ -78,10 +78,10 @@ starving_by edges standings set who Undecided is = tt
 
 -- Where no stream could complete.
 
-runs_resting : (standings : List Standing) (k : ℕ) (who : Step) → Runs standings k who → Runs (map at_rest standings) k who
+pub runs_resting : (standings : List Standing) (k : ℕ) (who : Step) → Runs standings k who → Runs (map at_rest standings) k who
 runs_resting standings k who runs = (at_rest runs.0, mapped at_rest standings runs.0 runs.1, runs.2, runs.3)
 
-resting_runs : (standings : List Standing) (k : ℕ) (who : Step) → Runs (map at_rest standings) k who → Runs standings k who
+pub resting_runs : (standings : List Standing) (k : ℕ) (who : Step) → Runs (map at_rest standings) k who → Runs standings k who
 resting_runs standings k who runs =
     let got = mapped_from at_rest standings runs.0 runs.1 in (
       got.0,
@@ -98,16 +98,22 @@ resting_not standings k who can =
     let off : ⊥ = cc in
     off
 
+-- rounds that are fair by words where no stream could complete are those that are fair by steps
+
+pub fair_resting : (standings : List Standing) (round : List Edge) → IsFairByWords (map at_rest standings) round
+    → IsFairBySteps standings round
+fair_resting standings round fair =
+    λ who throughout. fair.steps who (λ k passed. runs_resting standings k who (throughout k passed))
+
+pub resting_fair : (standings : List Standing) (round : List Edge) → IsFairBySteps standings round
+    → IsFairByWords (map at_rest standings) round
+resting_fair standings round fair = record {
+  steps = λ who throughout. fair who (λ j passed. resting_runs standings j who (throughout j passed));
+  words = λ j who passed can. absurd (resting_not standings j who can);
+}
+
 pub by_steps : (edges : List Edge) (standings : List Standing) (set : List Bool) (a : Answer)
     → IsAnswer edges set (IsFairByWords (map at_rest standings)) a → IsAnswer edges set (IsFairBySteps standings) a
-by_steps edges standings set (Found r) is = (
-  is.0,
-  λ who throughout. is.1.steps who (λ k passed. runs_resting standings k who (throughout k passed)),
-)
-by_steps edges standings set Absent is =
-    λ k round around fair.
-    is k round around (record {
-      steps = λ who throughout. fair who (λ j passed. resting_runs standings j who (throughout j passed));
-      words = λ j who passed can. absurd (resting_not standings j who can);
-    })
+by_steps edges standings set (Found r) is = (is.0, fair_resting standings r.edges.items is.1)
+by_steps edges standings set Absent is = λ k round around fair. is k round around (resting_fair standings round fair)
 by_steps edges standings set Undecided is = tt

@@ -38,7 +38,11 @@ pub(crate) fn checked_round(
 }
 
 /// The edges with these numbers, up to the first of which there is none.
-fn edges_at(alloc: Global, edges: &[Edge], numbers: &[usize]) -> Result<Vec<Edge>, AllocError>
+pub(crate) fn edges_at(
+    alloc: Global,
+    edges: &[Edge],
+    numbers: &[usize],
+) -> Result<Vec<Edge>, AllocError>
     ensures { IfOk result (λ v. All (Contains edges.now) v.items) }
 {
     let mut found = Vec::new(alloc);
@@ -53,7 +57,7 @@ fn edges_at(alloc: Global, edges: &[Edge], numbers: &[usize]) -> Result<Vec<Edge
 }
 
 /// Whether edges lead one after the other from a place to another one, within a set.
-fn is_walk(round: &[Edge], set: &[bool], from: usize, to: usize) -> bool
+pub(crate) fn is_walk(round: &[Edge], set: &[bool], from: usize, to: usize) -> bool
     ensures { result ≡ walks set.now from round.now to }
 {
     let mut here = from;

@@ -53,8 +53,9 @@ fn edges_left(alloc: Global, edges: &[Edge], who: Step) -> Result<Vec<Edge>, All
         .collect(alloc)
 }
 
-/// The same streams at the same places, as if none could complete.
-fn standings_at_rest(alloc: Global, standings: &[Standing]) -> Result<Vec<Standing>, AllocError>
+/// The same streams at the same places, as if none could complete: a round is fair by words among these if it is fair by
+/// steps.
+pub fn standings_at_rest(alloc: Global, standings: &[Standing]) -> Result<Vec<Standing>, AllocError>
     ensures { IfOk result (λ v. v.items ≡ map at_rest standings.now) }
 {
     standings

@@ -1,7 +1,8 @@
 -- Lemmas that several proofs share.
+pub mod ScheduleSpace
 mod PlaceStreams
 mod Leading
 mod StepEdges
 mod Marks
-mod Rounds
+pub mod Rounds
 mod Telling

@@ -6,11 +6,12 @@ use Rattle.std.proofs.lemmas.Bool.{cases_eq}
 use Rattle.std.proofs.lemmas.List.{get_or-set_same, get_or-set_other, take_more, length-replicate}
 use Rattle.std.proofs.lemmas.List.Elements.{Contains-append_left, Contains-push, Contains-push_cases}
 use Rattle.processor.specs.declared.steps.Step.{Step}
-use Rattle.waiting.specs.Running.{runs_in}
 use Rattle.schedule_space.specs.Spaces.{SpaceValue, count, world_of}
 use Rattle.fair_rounds.specs.declared.graphs.Standing.{Standing}
 use Rattle.fair_rounds.specs.Rounds.{IsIn}
-use Rattle.starving_streams.specs.Graphs.{Stands, AreStandings, AreMarksBy, AreMarksOf, IsMarkedBy}
+use Rattle.claims.specs.declared.run_conditions.Rest.{Rest}
+use Rattle.starving_streams.specs.Rests.{is_due}
+use Rattle.starving_streams.specs.Graphs.{Stands, AreDues, AreMarksBy, AreMarksOf, IsMarkedBy}
 
 -- One standing more.
 
@@ -89,17 +90,17 @@ marks_next count i standings who old new d below are many marked =
         ]
       ]
 
--- by all standings of a space they are those of the places at which the stream runs
-pub marks_of : (v : SpaceValue) (standings : List Standing) (who : Step) (marks : List Bool)
-    → AreStandings v (count v) standings → AreMarksBy standings (count v) who marks → AreMarksOf v who marks
-marks_of v standings who marks are by = record {
+-- by all dues of a space they are those of the places at which steps of the stream are due
+pub marks_of : (v : SpaceValue) (rests : List Rest) (dues : List Standing) (who : Step) (marks : List Bool)
+    → AreDues v rests (count v) dues → AreMarksBy dues (count v) who marks → AreMarksOf v rests who marks
+marks_of v rests dues who marks are by = record {
   each = by.many;
   sound = λ k below marked.
       let s = by.sound k below marked in
       let stand = are.sound s.0 s.1 in
-      subst (λ (n : ℕ). IsTrue (runs_in (world_of v n) who)) s.2
-      (subst (λ (t : Step). IsTrue (runs_in (world_of v s.0.place) t)) s.3 stand.runs);
-  all = λ k below runs.
-      let s = are.all k who below runs in
+      subst (λ (n : ℕ). IsTrue (is_due rests (world_of v n) who)) s.2
+      (subst (λ (t : Step). IsTrue (is_due rests (world_of v s.0.place) t)) s.3 stand.due);
+  all = λ k below due.
+      let s = are.all k who below due in
       subst (IsIn marks) s.2 (by.all s.0 s.1 s.3 (omega (arith, s.2, below)));
 }

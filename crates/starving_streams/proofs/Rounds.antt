@@ -6,6 +6,7 @@ use Rattle.image_file.specs.ImageValue.{ImageValue}
 use Rattle.processor.specs.World.{World, after, steps, run}
 use Rattle.processor.specs.declared.steps.Step.{Step}
 use Rattle.waiting.specs.Running.{runs_in}
+use Rattle.claims.specs.declared.run_conditions.Rest.{Rest}
 use Rattle.schedule_space.specs.Spaces.{SpaceValue, count, world_of}
 use Rattle.starving_streams.specs.Reports.{HasAllStates}
 use Rattle.fair_rounds.specs.declared.graphs.Edge.{Edge}
@@ -15,16 +16,16 @@ use Rattle.fair_rounds.specs.Rounds as graph
 use Rattle.fair_rounds.proofs.Walks.{head_in, tail_in, walk_on}
 use Rattle.fair_rounds.proofs.Lists.{mapped, mapped_from}
 use Rattle.starving_streams.specs.declared.graphs.Graph.{Graph}
-use Rattle.starving_streams.specs.Starving.{can_complete, TakenStep, taken, Starves, RunsThroughout, CanWaitForEver}
+use Rattle.starving_streams.specs.Rests.{is_due}
+use Rattle.starving_streams.specs.Starving.{can_complete, TakenStep, taken, Starves, IsDueThroughout, CanWaitForEver}
 use Rattle.starving_streams.specs.Starving as world
 use Rattle.starving_streams.specs.Graphs.{Stands, IsStepEdge, Leaves, IsGraph, AreMarksOf, step_of}
 
--- Where a stream runs in each world in which a step is taken, and in the last one, it runs in the first one.
-runs_first : (image : ImageValue) (w : World) (ts : List Step) (who : Step)
-    → ((x : TakenStep) → Contains (taken image w ts) x → IsTrue (runs_in x.world who))
-    → IsTrue (runs_in (steps image w ts) who) → IsTrue (runs_in w who)
-runs_first image w [] who stay last = last
-runs_first image w (t ∷ ts) who stay last =
+-- What holds of each world in which a step is taken, and of the last one, holds of the first one.
+pub holds_first : (P : World → Type 0) (image : ImageValue) (w : World) (ts : List Step)
+    → ((x : TakenStep) → Contains (taken image w ts) x → P x.world) → P (steps image w ts) → P w
+holds_first P image w [] stay last = last
+holds_first P image w (t ∷ ts) stay last =
     stay (record { world = w; step = t }) (head_in (record { world = w; step = t }) (taken image (after image w t) ts))
 
 -- a step of an edge, with the world of the place that it leads from
@@ -32,25 +33,31 @@ abbrev pub taken_at : SpaceValue → Edge → TakenStep
 taken_at v e = record { world = world_of v e.from; step = e.step }
 
 -- some edge is there where some step is
-some_edge : (es : List Edge) (ts : List Step) → map step_of es ≡ ts → 0 < length ts → 0 < length es
+pub some_edge : (es : List Edge) (ts : List Step) → map step_of es ≡ ts → 0 < length ts → 0 < length es
 some_edge [] ts is some =
     let none : length ts ≡ 0 = ap length (sym is) in
     absurd (omega (arith, none, some))
 some_edge (e ∷ es) ts is some = omega arith
 
-some_step : (es : List Edge) → 0 < length es → 0 < length (map step_of es)
+pub some_step : (es : List Edge) → 0 < length es → 0 < length (map step_of es)
 some_step [] some = some
 some_step (e ∷ es) some = omega arith
 
-module _ (v : SpaceValue) (g : Graph) (is : IsGraph v g) where
+module _ (v : SpaceValue) (rests : List Rest) (g : Graph) (is : IsGraph v rests g) where
   abbrev edges : List Edge
   edges = g.edges.items
 
   abbrev standings : List Standing
   standings = g.standings.items
 
+  abbrev dues : List Standing
+  dues = g.dues.items
+
   standing_here : (k : ℕ) (who : Step) → k < count v → IsTrue (runs_in (world_of v k) who) → Stands standings k who
   standing_here k who below runs = is.standings.all k who below runs
+
+  due_here : (k : ℕ) (who : Step) → k < count v → IsTrue (is_due rests (world_of v k) who) → Stands dues k who
+  due_here k who below due = is.dues.all k who below due
 
   edge_here : (k : ℕ) (who : Step) → k < count v → IsTrue (runs_in (world_of v k) who) → Leaves edges k who
   edge_here k who below runs =
@@ -62,7 +69,7 @@ module _ (v : SpaceValue) (g : Graph) (is : IsGraph v g) where
   module _ (marks : List Bool) where
     -- From the graph to the program.
 
-    walk_leads : (es : List Edge) (k j : ℕ) → IsWalk edges marks k es j
+    pub walk_leads : (es : List Edge) (k j : ℕ) → IsWalk edges marks k es j
         → steps v.image (world_of v k) (map step_of es) ≡ world_of v j
     walk_leads [] k j same = ap (world_of v) same
     walk_leads (e ∷ es) k j walk =
@@ -71,7 +78,7 @@ module _ (v : SpaceValue) (g : Graph) (is : IsGraph v g) where
         ∙ ap (λ (w : World). steps v.image w (map step_of es)) (sym here.leads)
         ∙ walk_leads es e.to j walk.1
 
-    walk_taken : (es : List Edge) (k j : ℕ) → IsWalk edges marks k es j
+    pub walk_taken : (es : List Edge) (k j : ℕ) → IsWalk edges marks k es j
         → taken v.image (world_of v k) (map step_of es) ≡ map (taken_at v) es
     walk_taken [] k j same = refl
     walk_taken (e ∷ es) k j walk =
@@ -81,7 +88,7 @@ module _ (v : SpaceValue) (g : Graph) (is : IsGraph v g) where
         ap (λ (n : ℕ). taken v.image (world_of v n) (e.step ∷ map step_of es)) (sym walk.0.from_is)
         ∙ ap (λ (xs : List TakenStep). taken_at v e ∷ xs) rest
 
-    module _ (es : List Edge) (k : ℕ) (walk : IsWalk edges marks k es k) where
+    module _ (es : List Edge) (k j : ℕ) (walk : IsWalk edges marks k es j) where
       abbrev w : World
       w = world_of v k
 
@@ -89,36 +96,36 @@ module _ (v : SpaceValue) (g : Graph) (is : IsGraph v g) where
       round = map step_of es
 
       same_taken : taken v.image w round ≡ map (taken_at v) es
-      same_taken = walk_taken es k k walk
+      same_taken = walk_taken es k j walk
 
-      -- a step of the round is an edge
-      edge_taken : (x : TakenStep) → Contains (taken v.image w round) x → (e : Edge) × Contains es e × (taken_at v e ≡ x)
+      -- a step of the walk is an edge
+      pub edge_taken : (x : TakenStep) → Contains (taken v.image w round) x → (e : Edge) × Contains es e × (taken_at v e ≡ x)
       edge_taken x there = mapped_from (taken_at v) es x (subst (λ (xs : List TakenStep). Contains xs x) same_taken there)
 
-      -- an edge is a step of the round
-      taken_edge : (e : Edge) → Contains es e → Contains (taken v.image w round) (taken_at v e)
+      -- an edge is a step of the walk
+      pub taken_edge : (e : Edge) → Contains es e → Contains (taken v.image w round) (taken_at v e)
       taken_edge e there =
           subst (λ (xs : List TakenStep). Contains xs (taken_at v e)) (sym same_taken) (mapped (taken_at v) es e there)
 
-      step_edge : (e : Edge) → Contains es e → IsStepEdge v e
-      step_edge e there = let on = walk_on edges marks es k k e walk there in is.edges.sound e on.is.there
+      pub step_edge : (e : Edge) → Contains es e → IsStepEdge v e
+      step_edge e there = let on = walk_on edges marks es k j e walk there in is.edges.sound e on.is.there
 
       -- The same of what is due to a stream.
 
-      runs_world : (who : Step) → ((n : ℕ) → Passes es n → Runs standings n who) → RunsThroughout v.image w round who
-      runs_world who runs x there =
+      due_world : (who : Step) → ((n : ℕ) → Passes es n → Runs dues n who) → IsDueThroughout v.image rests w round who
+      due_world who runs x there =
           let e = edge_taken x there in
           let s = runs e.0.from (e.0, e.1, refl) in
-          let stand = is.standings.sound s.0 s.1 in
-          subst (λ (y : TakenStep). IsTrue (runs_in y.world who)) e.2
-          (subst (λ (n : ℕ). IsTrue (runs_in (world_of v n) who)) s.2
-          (subst (λ (t : Step). IsTrue (runs_in (world_of v s.0.place) t)) s.3 stand.runs))
+          let stand = is.dues.sound s.0 s.1 in
+          subst (λ (y : TakenStep). IsTrue (is_due rests y.world who)) e.2
+          (subst (λ (n : ℕ). IsTrue (is_due rests (world_of v n) who)) s.2
+          (subst (λ (t : Step). IsTrue (is_due rests (world_of v s.0.place) t)) s.3 stand.due))
 
-      runs_graph : (who : Step) → RunsThroughout v.image w round who → (n : ℕ) → Passes es n → Runs standings n who
-      runs_graph who runs n passes =
+      due_graph : (who : Step) → IsDueThroughout v.image rests w round who → (n : ℕ) → Passes es n → Runs dues n who
+      due_graph who due n passes =
           let e = passes.0 in
-          let here : IsTrue (runs_in (world_of v e.from) who) = runs (taken_at v e) (taken_edge e passes.1) in
-          let s = standing_here e.from who (step_edge e passes.1).from here in
+          let here : IsTrue (is_due rests (world_of v e.from) who) = due (taken_at v e) (taken_edge e passes.1) in
+          let s = due_here e.from who (step_edge e passes.1).from here in
           (s.0, s.1, s.2 ∙ passes.2, s.3)
 
       steps_world : (who : Step) → graph.Steps es who → world.Steps v.image w round who
@@ -129,7 +136,7 @@ module _ (v : SpaceValue) (g : Graph) (is : IsGraph v g) where
           let e = edge_taken got.0 got.1 in
           (e.0, e.1, ap (λ (y : TakenStep). y.step) e.2 ∙ got.2)
 
-      -- whether an edge of the round completes
+      -- whether an edge of the walk completes
       edge_completes : (e : Edge) (who : Step) → Contains es e → e.step ≡ who
           → e.completes ≡ can_complete v.image (world_of v e.from) who
       edge_completes e who there own =
@@ -155,16 +162,22 @@ module _ (v : SpaceValue) (g : Graph) (is : IsGraph v g) where
                 ∙ got.3,
           )
 
-      pub fair_world : graph.IsFairByWords standings es → world.IsFairByWords v.image w round
+      pub fair_steps_world : graph.IsFairBySteps dues es → world.IsFairBySteps v.image rests w round
+      fair_steps_world fair = λ who due. steps_world who (fair who (due_graph who due))
+
+      pub fair_steps_graph : world.IsFairBySteps v.image rests w round → graph.IsFairBySteps dues es
+      fair_steps_graph fair = λ who runs. steps_graph who (fair who (due_world who runs))
+
+      pub fair_world : graph.IsFairByWords dues es → world.IsFairByWords v.image rests w round
       fair_world fair = record {
-        steps = λ who runs. steps_world who (fair.steps who (runs_graph who runs));
-        words = λ x who there runs can.
+        steps = fair_steps_world fair.steps;
+        words = λ x who there due can.
             let e = edge_taken x there in
             let from = (step_edge e.0 e.1).from in
             let at : (taken_at v e.0).world ≡ x.world = ap (λ (y : TakenStep). y.world) e.2 in
-            let s = standing_here e.0.from who from (subst (λ (y : World). IsTrue (runs_in y who)) (sym at) runs) in
+            let s = due_here e.0.from who from (subst (λ (y : World). IsTrue (is_due rests y who)) (sym at) due) in
             let able : s.0.can_complete ≡ true =
-            (is.standings.sound s.0 s.1).can
+            (is.dues.sound s.0 s.1).can
             ∙ ap (λ (n : ℕ). can_complete v.image (world_of v n) s.0.step) s.2
             ∙ ap (can_complete v.image (world_of v e.0.from)) s.3
             ∙ ap (λ (y : World). can_complete v.image y who) at
@@ -172,22 +185,22 @@ module _ (v : SpaceValue) (g : Graph) (is : IsGraph v g) where
             completes_world who (fair.words e.0.from who (e.0, e.1, refl) (s.0, s.1, s.2, s.3, able));
       }
 
-      pub fair_graph : world.IsFairByWords v.image w round → graph.IsFairByWords standings es
+      pub fair_graph : world.IsFairByWords v.image rests w round → graph.IsFairByWords dues es
       fair_graph fair = record {
-        steps = λ who runs. steps_graph who (fair.steps who (runs_world who runs));
+        steps = fair_steps_graph fair.steps;
         words = λ n who passes can.
             let e = passes.0 in
-            let stand = is.standings.sound can.0 can.1 in
+            let stand = is.dues.sound can.0 can.1 in
             let at : can.0.place ≡ e.from = can.2 ∙ sym passes.2 in
-            let runs : IsTrue (runs_in (world_of v e.from) who) =
-            subst (λ (m : ℕ). IsTrue (runs_in (world_of v m) who)) at
-            (subst (λ (t : Step). IsTrue (runs_in (world_of v can.0.place) t)) can.3 stand.runs) in
+            let due : IsTrue (is_due rests (world_of v e.from) who) =
+            subst (λ (m : ℕ). IsTrue (is_due rests (world_of v m) who)) at
+            (subst (λ (t : Step). IsTrue (is_due rests (world_of v can.0.place) t)) can.3 stand.due) in
             let able : can_complete v.image (world_of v e.from) who ≡ true =
             ap (λ (m : ℕ). can_complete v.image (world_of v m) who) (sym at)
             ∙ ap (can_complete v.image (world_of v can.0.place)) (sym can.3)
             ∙ sym stand.can
             ∙ can.4 in
-            completes_graph who (fair.words (taken_at v e) who (taken_edge e passes.1) runs able);
+            completes_graph who (fair.words (taken_at v e) who (taken_edge e passes.1) due able);
       }
 
       pub blocked_world : (who : Step) → IsBlockedIn es who → world.IsBlockedIn v.image w round who
@@ -203,42 +216,25 @@ module _ (v : SpaceValue) (g : Graph) (is : IsGraph v g) where
           edge_completes e who there own ∙ blocked (taken_at v e) (taken_edge e there) own
 
       -- each step is one of a stream that runs
-      run_world : (x : TakenStep) → Contains (taken v.image w round) x → IsTrue (runs_in x.world x.step)
+      pub run_world : (x : TakenStep) → Contains (taken v.image w round) x → IsTrue (runs_in x.world x.step)
       run_world x there =
           let e = edge_taken x there in
           subst (λ (y : TakenStep). IsTrue (runs_in y.world y.step)) e.2 (step_edge e.0 e.1).runs
 
-    module _ (who : Step) (at : AreMarksOf v who marks) where
-      -- a round in which the stream starves
-      pub starves_in : (es : List Edge) (k : ℕ) → graph.IsRound edges marks k es → graph.IsFairByWords standings es
-          → IsBlockedIn es who → Starves v.image (world_of v k) who (map step_of es)
-      starves_in es k around fair blocked = record {
-        around = record {
-          some = some_step es around.some;
-          back = walk_leads es k k around.walk;
-          run = run_world es k around.walk;
-        };
-        fair = fair_world es k around.walk fair;
-        runs = λ x there.
-            let e = edge_taken es k around.walk x there in
-            let on = walk_on edges marks es k k e.0 around.walk e.1 in
-            subst (λ (y : TakenStep). IsTrue (runs_in y.world who)) e.2 (at.sound e.0.from (is.edges.sound e.0 on.is.there).from on.is.from_in);
-        blocked = blocked_world es k around.walk who blocked;
-      }
+    -- From the program to the graph, where each place is marked of whose world something holds.
 
-      -- From the program to the graph.
-
+    module _ (P : World → Type 0) (held : (k : ℕ) → k < count v → P (world_of v k) → IsIn marks k) where
       -- a schedule as a walk
-      record HasWalk (k j : ℕ) (ts : List Step) : Type 0 where
-        es : List Edge
-        walk : IsWalk edges marks k es j
-        same : map step_of es ≡ ts
+      pub record HasWalk (k j : ℕ) (ts : List Step) : Type 0 where
+        pub es : List Edge
+        pub walk : IsWalk edges marks k es j
+        pub same : map step_of es ≡ ts
 
-      walk_of : HasAllStates v → (ts : List Step) (k j : ℕ) → k < count v → j < count v
+      pub walk_of : HasAllStates v → (ts : List Step) (k j : ℕ) → k < count v → j < count v
           → steps v.image (world_of v k) ts ≡ world_of v j
           → ((x : TakenStep) → Contains (taken v.image (world_of v k) ts) x → IsTrue (runs_in x.world x.step))
-          → ((x : TakenStep) → Contains (taken v.image (world_of v k) ts) x → IsTrue (runs_in x.world who))
-          → IsTrue (runs_in (world_of v j) who) → HasWalk k j ts
+          → ((x : TakenStep) → Contains (taken v.image (world_of v k) ts) x → P x.world)
+          → P (world_of v j) → HasWalk k j ts
       walk_of plain [] k j below within leads run stay last =
           record { es = []; walk = plain.distinct k j below within leads; same = refl }
       walk_of plain (t ∷ ts) k j below within leads run stay last =
@@ -255,9 +251,8 @@ module _ (v : SpaceValue) (g : Graph) (is : IsGraph v g) where
           (subst (λ (y : World). Contains (taken v.image y ts) x) to there) in
           let on : steps v.image (world_of v e.0.to) ts ≡ world_of v j =
           ap (λ (y : World). steps v.image y ts) to ∙ leads in
-          let next : IsTrue (runs_in (world_of v e.0.to) who) =
-          runs_first v.image (world_of v e.0.to) ts who (λ x there. stay x (inner x there))
-          (subst (λ (y : World). IsTrue (runs_in y who)) (sym on) last) in
+          let next : P (world_of v e.0.to) =
+          holds_first P v.image (world_of v e.0.to) ts (λ x there. stay x (inner x there)) (subst P (sym on) last) in
           let rest = walk_of plain ts e.0.to j edge.to within on (λ x there. run x (inner x there))
           (λ x there. stay x (inner x there)) last in
           record {
@@ -266,34 +261,52 @@ module _ (v : SpaceValue) (g : Graph) (is : IsGraph v g) where
               record {
                 there = e.1;
                 from_is = e.2;
-                from_in = at.all k below (stay first (head_in first behind));
-                to_in = at.all e.0.to edge.to next;
+                from_in = held k below (stay first (head_in first behind));
+                to_in = held e.0.to edge.to next;
               },
               rest.walk,
             );
             same = ap (λ (u : Step). u ∷ map step_of rest.es) e.3 ∙ ap (λ (us : List Step). t ∷ us) rest.same;
           }
 
+    module _ (who : Step) (at : AreMarksOf v rests who marks) where
+      -- a round in which the stream starves
+      pub starves_in : (es : List Edge) (k : ℕ) → graph.IsRound edges marks k es → graph.IsFairByWords dues es
+          → IsBlockedIn es who → Starves v.image rests (world_of v k) who (map step_of es)
+      starves_in es k around fair blocked = record {
+        around = record {
+          some = some_step es around.some;
+          back = walk_leads es k k around.walk;
+          run = run_world es k k around.walk;
+        };
+        fair = fair_world es k k around.walk fair;
+        due = λ x there.
+            let e = edge_taken es k k around.walk x there in
+            let on = walk_on edges marks es k k e.0 around.walk e.1 in
+            subst (λ (y : TakenStep). IsTrue (is_due rests y.world who)) e.2 (at.sound e.0.from (is.edges.sound e.0 on.is.there).from on.is.from_in);
+        blocked = blocked_world es k k around.walk who blocked;
+      }
+
       -- where no round of the graph starves the stream, none of the program does
       pub none_starves : HasAllStates v
           → ((k : ℕ) (es : List Edge) → graph.IsRound edges marks k es
-          → ¬ (graph.IsFairByWords standings es × IsBlockedIn es who))
-          → ¬ (CanWaitForEver v.image v.begin who)
+          → ¬ (graph.IsFairByWords dues es × IsBlockedIn es who))
+          → ¬ (CanWaitForEver v.image v.begin rests who)
       none_starves plain none can =
           let has = plain.complete can.0 in
           let k = has.0 in
-          let starves : Starves v.image (world_of v k) who can.1 =
-          subst (λ (y : World). Starves v.image y who can.1) (sym has.2) can.2 in
-          let last : IsTrue (runs_in (world_of v k) who) =
-          first_runs can.1 (world_of v k) starves in
-          let walk = walk_of plain can.1 k k has.1 has.1 starves.around.back starves.around.run starves.runs last in
-          let same : Starves v.image (world_of v k) who (map step_of walk.es) =
-          subst (Starves v.image (world_of v k) who) (sym walk.same) starves in
+          let starves : Starves v.image rests (world_of v k) who can.1 =
+          subst (λ (y : World). Starves v.image rests y who can.1) (sym has.2) can.2 in
+          let last : IsTrue (is_due rests (world_of v k) who) =
+          first_due can.1 (world_of v k) starves in
+          let walk = walk_of (λ (y : World). IsTrue (is_due rests y who)) at.all plain can.1 k k has.1 has.1 starves.around.back starves.around.run starves.due last in
+          let same : Starves v.image rests (world_of v k) who (map step_of walk.es) =
+          subst (Starves v.image rests (world_of v k) who) (sym walk.same) starves in
           none k walk.es
           (record { walk = walk.walk; some = some_edge walk.es can.1 walk.same starves.around.some })
-          (fair_graph walk.es k walk.walk same.fair, blocked_graph walk.es k walk.walk who same.blocked) where
-            first_runs : (ts : List Step) (y : World) → Starves v.image y who ts → IsTrue (runs_in y who)
-            first_runs [] y starves = let some = starves.around.some in absurd (omega (arith, some))
-            first_runs (t ∷ ts) y starves =
-                starves.runs (record { world = y; step = t })
+          (fair_graph walk.es k k walk.walk same.fair, blocked_graph walk.es k k walk.walk who same.blocked) where
+            first_due : (ts : List Step) (y : World) → Starves v.image rests y who ts → IsTrue (is_due rests y who)
+            first_due [] y starves = let some = starves.around.some in absurd (omega (arith, some))
+            first_due (t ∷ ts) y starves =
+                starves.due (record { world = y; step = t })
                 (head_in (record { world = y; step = t }) (taken v.image (after v.image y t) ts))

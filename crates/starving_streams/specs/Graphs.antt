@@ -1,5 +1,5 @@
 -- The graph of a space: its places, and an edge for each step of a stream.
-use Rattle.std.specs.Prelude.{◌≡◌, ◌⊎◌, ℕ, ◌<◌, IsTrue, Bool, List, [], ◌∷◌, ◌++◌, map, length}
+use Rattle.std.specs.Prelude.{◌≡◌, ◌⊎◌, ℕ, ◌<◌, not, IsTrue, Bool, if◌then◌else◌, List, [], ◌∷◌, ◌++◌, map, filter, length}
 use Rattle.std.specs.Prelude.{slice_index_or, Contains}
 use Rattle.image_file.specs.ImageValue.{ImageValue}
 use Rattle.processor.specs.World.{World, after}
@@ -16,6 +16,8 @@ use Rattle.starving_streams.specs.declared.reports.Starving.{Starving}
 use Rattle.starving_streams.specs.declared.reports.StarvingStreams.{StarvingStreams}
 use Rattle.starving_streams.specs.declared.starving.StreamAnswer.{StreamAnswer}
 use Rattle.starving_streams.specs.declared.starving.StreamAnswer.TheVariants as answer
+use Rattle.claims.specs.declared.run_conditions.Rest.{Rest}
+use Rattle.starving_streams.specs.Rests.{may_rest, is_due}
 use Rattle.starving_streams.specs.Starving.{can_complete, CanWaitForEver}
 use Rattle.starving_streams.specs.Reports.{IsShown, Names}
 
@@ -37,6 +39,25 @@ Stands standings k who = (s : Standing) × Contains standings s × (s.place ≡ 
 pub record AreStandings (v : SpaceValue) (n : ℕ) (standings : List Standing) : Type 0 where
   pub sound : (s : Standing) → Contains standings s → IsStanding v s
   pub all : (k : ℕ) (who : Step) → k < n → IsTrue (runs_in (world_of v k) who) → Stands standings k who
+
+-- steps of the stream are due at the place, and it can complete there if its next step is not Blocked
+pub record IsDueStanding (v : SpaceValue) (rests : List Rest) (s : Standing) : Type 0 where
+  pub there : s.place < count v
+  pub due : IsTrue (is_due rests (world_of v s.place) s.step)
+  pub can : s.can_complete ≡ can_complete v.image (world_of v s.place) s.step
+
+-- They are of the streams of which steps are due at the first so many places, and of all of them.
+pub record AreDues (v : SpaceValue) (rests : List Rest) (n : ℕ) (dues : List Standing) : Type 0 where
+  pub sound : (s : Standing) → Contains dues s → IsDueStanding v rests s
+  pub all : (k : ℕ) (who : Step) → k < n → IsTrue (is_due rests (world_of v k) who) → Stands dues k who
+
+-- whether a stream may not rest in a world
+abbrev pub may_not_rest : List Rest → World → Step → Bool
+may_not_rest rests w who = not (may_rest rests w who)
+
+-- the standing of a stream, unless it may rest
+abbrev pub due_of : Bool → Standing → List Standing
+due_of rests s = if rests then [] else s ∷ []
 
 -- the edge is a step of a stream that runs, from one place to another or to the same
 pub record IsStepEdge (v : SpaceValue) (e : Edge) : Type 0 where
@@ -66,9 +87,10 @@ pub record HasAdded (old : List Step) (who : Step) (new : List Step) : Type 0 wh
   pub there : Contains new who
   pub kept : (u : Step) → Contains old u → Contains new u
 
--- The graph has the streams that run at each place, and each of their steps.
-pub record IsGraph (v : SpaceValue) (g : Graph) : Type 0 where
+-- The graph has the streams that run at each place, those of them that may not rest there, and each of their steps.
+pub record IsGraph (v : SpaceValue) (rests : List Rest) (g : Graph) : Type 0 where
   pub standings : AreStandings v (count v) g.standings.items
+  pub dues : AreDues v rests (count v) g.dues.items
   pub streams : HaveStreams g.standings.items g.streams.items
   pub edges : AreEdges v g.standings.items g.streams.items (length g.streams.items) g.edges.items
 
@@ -112,21 +134,21 @@ abbrev pub IsMarkedBy : Standing → Step → ℕ → Bool → Bool → Type 0
 IsMarkedBy s who k old new =
     ((s.place ≡ k) × (s.step ≡ who) × IsTrue new) ⊎ ((new ≡ old) × (s.place ≡ k → s.step ≡ who → ⊥))
 
--- There is a mark for each place, and just those at which the stream runs are set.
-pub record AreMarksOf (v : SpaceValue) (who : Step) (marks : List Bool) : Type 0 where
+-- There is a mark for each place, and just those at which steps of the stream are due are set.
+pub record AreMarksOf (v : SpaceValue) (rests : List Rest) (who : Step) (marks : List Bool) : Type 0 where
   pub each : length marks ≡ count v
-  pub sound : (k : ℕ) → k < count v → IsIn marks k → IsTrue (runs_in (world_of v k) who)
-  pub all : (k : ℕ) → k < count v → IsTrue (runs_in (world_of v k) who) → IsIn marks k
+  pub sound : (k : ℕ) → k < count v → IsIn marks k → IsTrue (is_due rests (world_of v k) who)
+  pub all : (k : ℕ) → k < count v → IsTrue (is_due rests (world_of v k) who) → IsIn marks k
 
 -- the step of an edge
 abbrev pub step_of : Edge → Step
 step_of e = e.step
 
 -- What is found of a stream: it starves so, it never does, or nothing is known.
-abbrev pub IsStreamAnswer : ImageValue → List Step → Step → StreamAnswer → Type 0
-IsStreamAnswer image begin who (answer.Starves x) = IsShown image begin x × (x.stream ≡ who)
-IsStreamAnswer image begin who answer.Never = ¬ (CanWaitForEver image begin who)
-IsStreamAnswer image begin who answer.Undecided = Unit {0}
+abbrev pub IsStreamAnswer : ImageValue → List Step → List Rest → Step → StreamAnswer → Type 0
+IsStreamAnswer image begin rests who (answer.Starves x) = IsShown image begin rests x × (x.stream ≡ who)
+IsStreamAnswer image begin rests who answer.Never = ¬ (CanWaitForEver image begin rests who)
+IsStreamAnswer image begin rests who answer.Undecided = Unit {0}
 
 -- That a stream starves in a round: the schedule to its place, and the steps of its edges.
 pub record IsLassoOf (v : SpaceValue) (who : Step) (r : Round) (x : Starving) : Type 0 where
@@ -151,8 +173,8 @@ IsAdded who answer.Undecided old new =
     (new.starving.items ≡ old.starving.items) × (new.undecided.items ≡ old.undecided.items ++ who ∷ [])
 
 -- What is said of the first so many of some streams.
-pub record TellsOfFirst (image : ImageValue) (begin : List Step) (streams : List Step) (n : ℕ) (r : StarvingStreams)
-    : Type 0 where
-  pub shown : (x : Starving) → Contains r.starving.items x → IsShown image begin x
-  pub all : (i : ℕ) (d : Step) → i < n → CanWaitForEver image begin (slice_index_or streams i d)
+pub record TellsOfFirst (image : ImageValue) (begin : List Step) (rests : List Rest) (streams : List Step) (n : ℕ)
+    (r : StarvingStreams) : Type 0 where
+  pub shown : (x : Starving) → Contains r.starving.items x → IsShown image begin rests x
+  pub all : (i : ℕ) (d : Step) → i < n → CanWaitForEver image begin rests (slice_index_or streams i d)
       → Names r.starving.items (slice_index_or streams i d) ⊎ Contains r.undecided.items (slice_index_or streams i d)

@@ -1,7 +1,10 @@
 -- What public contracts promise: streams that can wait for ever, and what is said of them.
+pub mod Rests
 pub mod Starving
 pub mod Reports
--- Cited by private contracts alone.
+-- and the graph of a space.
 pub mod Graphs
 -- Of crates below, passed on to callers.
+pub mod Claims
+pub mod ClaimsTypes
 pub mod ScheduleSpace

@@ -1,30 +1,34 @@
 //! The streams of a program that can wait forever.
 
-ghost use Rattle.std.specs.Prelude.{◌≡◌, map, IfOk, OnOk};
+ghost use Rattle.std.specs.Prelude.{◌≡◌, ◌<◌, Err, List, map, IfOk, OnOk};
+ghost use Rattle.claims.specs.declared.run_conditions.Rest.{Rest};
 ghost use Rattle.starving_streams.specs.Reports.{HasAllStates, TellsWhoStarves};
 ghost use Rattle.starving_streams.specs.Graphs.{IsGraph, IsStreamAnswer, IsAdded, IsShownAs, step_of};
 
 use crate::graphs::{Graph, graph_of};
 use crate::places::places_of;
 use crate::reports::{Starving, StarvingStreams};
+use claims::Rest;
 use fair_rounds::{Answer, Edge, Round, starving_round};
 use machine::LoadFault;
 use processor::Step;
 use schedule_space::Space;
 use std::alloc::{AllocError, Global};
 
-/// The streams that can wait forever: some schedule leads to a round that is fair by words, in which the stream runs
-/// throughout and each of its steps is Blocked. That is so of a space that has all worlds and all steps between them:
+/// The streams that can wait forever, where these may rest: some schedule leads to a round that is fair by words, in which
+/// steps of the stream are due throughout and each that it has is Blocked. That is so of a space that has all worlds and all steps between them:
 /// of each such stream a shortest schedule to the world of its round and the round are shown, and if none is shown or
-/// left undecided, no stream can wait forever.
+/// left undecided, no stream can wait forever. `Streams` only where the image's slim is above `S`.
 pub fn starving_streams<const S: usize>(
     alloc: Global,
     space: &Space<'_>,
+    rests: &[Rest],
 ) -> Result<StarvingStreams, LoadFault>
     ensures tells { IfOk result (λ r. HasAllStates space.now
-        → TellsWhoStarves space.now.image space.now.begin r) }
+        → TellsWhoStarves space.now.image space.now.begin rests.now r) }
+    ensures streams { result ≡ Err LoadFault.Streams → S < space.now.image.slim }
 {
-    let graph = graph_of::<S>(alloc, space)?;
+    let graph = graph_of::<S>(alloc, space, rests)?;
     let mut report = StarvingStreams {
         starving: Vec::new(alloc),
         undecided: Vec::new(alloc),
@@ -71,11 +75,11 @@ fn answer_of(
     graph: &Graph,
     who: Step,
 ) -> Result<StreamAnswer, AllocError>
-    ensures { IfOk result (λ a. HasAllStates space.now → IsGraph space.now graph.now
-        → IsStreamAnswer space.now.image space.now.begin who a) }
+    ensures { IfOk result (λ a. HasAllStates space.now → (rests : List Rest) → IsGraph space.now rests graph.now
+        → IsStreamAnswer space.now.image space.now.begin rests who a) }
 {
-    let within = places_of(alloc, &graph.standings, space.len(), who)?;
-    match starving_round(alloc, &graph.edges, &graph.standings, &within, who)? {
+    let within = places_of(alloc, &graph.dues, space.len(), who)?;
+    match starving_round(alloc, &graph.edges, &graph.dues, &within, who)? {
         Answer::Found(round) => starving_in(alloc, space, who, &round),
         Answer::Absent => Ok(StreamAnswer::Never),
         Answer::Undecided => Ok(StreamAnswer::Undecided),
@@ -104,7 +108,7 @@ fn starving_in(
 }
 
 /// The steps of edges.
-fn steps_of(alloc: Global, edges: &[Edge]) -> Result<Vec<Step>, AllocError>
+pub fn steps_of(alloc: Global, edges: &[Edge]) -> Result<Vec<Step>, AllocError>
     ensures { IfOk result (λ v. v.items ≡ map step_of edges.now) }
 {
     edges.iter().map(|edge| step_of(*edge)).collect(alloc)

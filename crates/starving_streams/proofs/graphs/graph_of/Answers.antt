@@ -4,13 +4,14 @@ use Rattle.fair_rounds.specs.declared.graphs.Standing.{Standing}
 use Rattle.starving_streams.specs.Graphs.{AreEdges, HaveStreams}
 use Rattle.starving_streams.proofs.graphs.graph_of.Goals as goal
 
-pub returns : goal.returns
-returns g c = λ plain.
+pub returns-clause-is : goal.returns-clause-is
+returns-clause-is g c = λ plain.
     let v = c.args.space.now in
     let streams = c.in_ok-streams.streams.items in
     let edges = c.in_ok-edges.edges.items in
     record {
-      standings = c.in_ok-standings.ensures;
+      standings = c.in_ok-all.ensures.is;
+      dues = c.in_ok-all.ensures.dues;
       streams =
           subst (λ (ss : List Standing). HaveStreams ss streams) c.deref.ensures.value c.in_ok-streams.ensures;
       edges =

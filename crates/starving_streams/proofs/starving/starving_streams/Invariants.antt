@@ -5,4 +5,4 @@ use Rattle.starving_streams.proofs.starving.starving_streams.Given as goal
 
 abbrev pub invariant-loop-number : goal.invariant-loop-number
 invariant-loop-number g l =
-    HasAllStates l.space → TellsOfFirst l.space.image l.space.begin l.graph.streams.items l.number l.report
+    HasAllStates l.space → TellsOfFirst l.space.image l.space.begin l.rests l.graph.streams.items l.number l.report

@@ -1,0 +1,4 @@
+-- Lemmas that several proofs share.
+mod Pushing
+mod Runs
+mod Overtakings

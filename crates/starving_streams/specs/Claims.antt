@@ -1,0 +1,2 @@
+-- Definitions of claims that callers name, passed on.
+pub use Rattle.claims.specs.Holding
