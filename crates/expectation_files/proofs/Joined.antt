@@ -8,7 +8,8 @@ use Rattle.program_rules.specs.declared.program_rule.ProgramRule.{ProgramRule}
 use Rattle.work_rules.specs.declared.work_rule.WorkRule.{WorkRule}
 use Rattle.expectation_files.specs.Words.{words_on, in_one_line}
 use Rattle.expectation_files.specs.ClaimLines.{ClaimValue}
-use Rattle.expectation_files.specs.Lines.{End, Claimed, Rules, Work, NeverBusy, NeverStarved}
+use Rattle.expectation_files.specs.Conditions.{ConditionValue, RestValue}
+use Rattle.expectation_files.specs.Lines.{End, Claimed, OfRuns, Rests, Rules, Work, NeverBusy, NeverStarved}
 use Rattle.expectation_files.specs.Files.{RequirementsValue, FileSaid, nothing_said, said_on, joined, in_front, texts_of_rules}
 
 or_none : (o : Option ℕ) → option_or o None ≡ o
@@ -28,6 +29,10 @@ joined_nothing v =
       append-nil v.claims,
       append-nil v.claim_numbers,
       append-nil v.claim_texts,
+      append-nil v.run_conditions,
+      append-nil v.condition_numbers,
+      append-nil v.condition_texts,
+      append-nil v.rests,
       append-nil v.rules,
       append-nil v.rule_numbers,
       append-nil v.rule_texts,
@@ -46,6 +51,10 @@ pub joined_end : (v : RequirementsValue) (e : Expectation) (k : ℕ) (l : List �
       claims = v.claims;
       claim_numbers = v.claim_numbers;
       claim_texts = v.claim_texts;
+      run_conditions = v.run_conditions;
+      condition_numbers = v.condition_numbers;
+      condition_texts = v.condition_texts;
+      rests = v.rests;
       rules = v.rules;
       rule_numbers = v.rule_numbers;
       rule_texts = v.rule_texts;
@@ -60,6 +69,10 @@ joined_end v e k l =
       append-nil v.claims,
       append-nil v.claim_numbers,
       append-nil v.claim_texts,
+      append-nil v.run_conditions,
+      append-nil v.condition_numbers,
+      append-nil v.condition_texts,
+      append-nil v.rests,
       append-nil v.rules,
       append-nil v.rule_numbers,
       append-nil v.rule_texts,
@@ -78,6 +91,10 @@ pub joined_claim : (v : RequirementsValue) (c : ClaimValue) (k : ℕ) (l : List 
       claims = v.claims ++ c ∷ [];
       claim_numbers = v.claim_numbers ++ k ∷ [];
       claim_texts = v.claim_texts ++ in_one_line (words_on l) ∷ [];
+      run_conditions = v.run_conditions;
+      condition_numbers = v.condition_numbers;
+      condition_texts = v.condition_texts;
+      rests = v.rests;
       rules = v.rules;
       rule_numbers = v.rule_numbers;
       rule_texts = v.rule_texts;
@@ -92,6 +109,92 @@ joined_claim v c k l =
       append-nil v.ends,
       append-nil v.end_numbers,
       append-nil v.end_texts,
+      append-nil v.run_conditions,
+      append-nil v.condition_numbers,
+      append-nil v.condition_texts,
+      append-nil v.rests,
+      append-nil v.rules,
+      append-nil v.rule_numbers,
+      append-nil v.rule_texts,
+      append-nil v.work,
+      append-nil v.work_numbers,
+      append-nil v.work_texts,
+      or_none v.never_busy,
+      or_none v.never_starved,
+    ) refl
+
+pub joined_conditions : (v : RequirementsValue) (cs : List ConditionValue) (k : ℕ) (l : List ℕ) → joined v (said_on k l (OfRuns cs))
+    ≡ record {
+      ends = v.ends;
+      end_numbers = v.end_numbers;
+      end_texts = v.end_texts;
+      claims = v.claims;
+      claim_numbers = v.claim_numbers;
+      claim_texts = v.claim_texts;
+      run_conditions = v.run_conditions ++ cs;
+      condition_numbers = v.condition_numbers ++ replicate (length cs) k;
+      condition_texts = v.condition_texts ++ texts_of_rules (words_on l) (length cs);
+      rests = v.rests;
+      rules = v.rules;
+      rule_numbers = v.rule_numbers;
+      rule_texts = v.rule_texts;
+      work = v.work;
+      work_numbers = v.work_numbers;
+      work_texts = v.work_texts;
+      never_busy = v.never_busy;
+      never_starved = v.never_starved;
+    }
+joined_conditions v cs k l =
+    rw (
+      append-nil v.ends,
+      append-nil v.end_numbers,
+      append-nil v.end_texts,
+      append-nil v.claims,
+      append-nil v.claim_numbers,
+      append-nil v.claim_texts,
+      append-nil v.rests,
+      append-nil v.rules,
+      append-nil v.rule_numbers,
+      append-nil v.rule_texts,
+      append-nil v.work,
+      append-nil v.work_numbers,
+      append-nil v.work_texts,
+      or_none v.never_busy,
+      or_none v.never_starved,
+    ) refl
+
+pub joined_rest : (v : RequirementsValue) (r : RestValue) (k : ℕ) (l : List ℕ) → joined v (said_on k l (Rests r))
+    ≡ record {
+      ends = v.ends;
+      end_numbers = v.end_numbers;
+      end_texts = v.end_texts;
+      claims = v.claims;
+      claim_numbers = v.claim_numbers;
+      claim_texts = v.claim_texts;
+      run_conditions = v.run_conditions;
+      condition_numbers = v.condition_numbers;
+      condition_texts = v.condition_texts;
+      rests = v.rests ++ r ∷ [];
+      rules = v.rules;
+      rule_numbers = v.rule_numbers;
+      rule_texts = v.rule_texts;
+      work = v.work;
+      work_numbers = v.work_numbers;
+      work_texts = v.work_texts;
+      never_busy = v.never_busy;
+      never_starved = v.never_starved;
+    }
+joined_rest v r k l =
+    rw (
+      append-nil v.ends,
+      append-nil v.end_numbers,
+      append-nil v.end_texts,
+      append-nil v.claims,
+      append-nil v.claim_numbers,
+      append-nil v.claim_texts,
+      append-nil v.run_conditions,
+      append-nil v.condition_numbers,
+      append-nil v.condition_texts,
       append-nil v.rules,
       append-nil v.rule_numbers,
       append-nil v.rule_texts,
@@ -110,6 +213,10 @@ pub joined_rules : (v : RequirementsValue) (rs : List ProgramRule) (k : ℕ) (l 
       claims = v.claims;
       claim_numbers = v.claim_numbers;
       claim_texts = v.claim_texts;
+      run_conditions = v.run_conditions;
+      condition_numbers = v.condition_numbers;
+      condition_texts = v.condition_texts;
+      rests = v.rests;
       rules = v.rules ++ rs;
       rule_numbers = v.rule_numbers ++ replicate (length rs) k;
       rule_texts = v.rule_texts ++ texts_of_rules (words_on l) (length rs);
@@ -127,6 +234,10 @@ joined_rules v rs k l =
       append-nil v.claims,
       append-nil v.claim_numbers,
       append-nil v.claim_texts,
+      append-nil v.run_conditions,
+      append-nil v.condition_numbers,
+      append-nil v.condition_texts,
+      append-nil v.rests,
       append-nil v.work,
       append-nil v.work_numbers,
       append-nil v.work_texts,
@@ -142,6 +253,10 @@ pub joined_work : (v : RequirementsValue) (rs : List WorkRule) (k : ℕ) (l : Li
       claims = v.claims;
       claim_numbers = v.claim_numbers;
       claim_texts = v.claim_texts;
+      run_conditions = v.run_conditions;
+      condition_numbers = v.condition_numbers;
+      condition_texts = v.condition_texts;
+      rests = v.rests;
       rules = v.rules;
       rule_numbers = v.rule_numbers;
       rule_texts = v.rule_texts;
@@ -159,6 +274,10 @@ joined_work v rs k l =
       append-nil v.claims,
       append-nil v.claim_numbers,
       append-nil v.claim_texts,
+      append-nil v.run_conditions,
+      append-nil v.condition_numbers,
+      append-nil v.condition_texts,
+      append-nil v.rests,
       append-nil v.rules,
       append-nil v.rule_numbers,
       append-nil v.rule_texts,
@@ -174,6 +293,10 @@ pub joined_busy : (v : RequirementsValue) (k : ℕ) (l : List ℕ) → joined v 
       claims = v.claims;
       claim_numbers = v.claim_numbers;
       claim_texts = v.claim_texts;
+      run_conditions = v.run_conditions;
+      condition_numbers = v.condition_numbers;
+      condition_texts = v.condition_texts;
+      rests = v.rests;
       rules = v.rules;
       rule_numbers = v.rule_numbers;
       rule_texts = v.rule_texts;
@@ -191,6 +314,10 @@ joined_busy v k l =
       append-nil v.claims,
       append-nil v.claim_numbers,
       append-nil v.claim_texts,
+      append-nil v.run_conditions,
+      append-nil v.condition_numbers,
+      append-nil v.condition_texts,
+      append-nil v.rests,
       append-nil v.rules,
       append-nil v.rule_numbers,
       append-nil v.rule_texts,
@@ -208,6 +335,10 @@ pub joined_starved : (v : RequirementsValue) (k : ℕ) (l : List ℕ) → joined
       claims = v.claims;
       claim_numbers = v.claim_numbers;
       claim_texts = v.claim_texts;
+      run_conditions = v.run_conditions;
+      condition_numbers = v.condition_numbers;
+      condition_texts = v.condition_texts;
+      rests = v.rests;
       rules = v.rules;
       rule_numbers = v.rule_numbers;
       rule_texts = v.rule_texts;
@@ -225,6 +356,10 @@ joined_starved v k l =
       append-nil v.claims,
       append-nil v.claim_numbers,
       append-nil v.claim_texts,
+      append-nil v.run_conditions,
+      append-nil v.condition_numbers,
+      append-nil v.condition_texts,
+      append-nil v.rests,
       append-nil v.rules,
       append-nil v.rule_numbers,
       append-nil v.rule_texts,
@@ -243,6 +378,10 @@ joined_assoc v w u =
       append_assoc v.claims w.claims u.claims,
       append_assoc v.claim_numbers w.claim_numbers u.claim_numbers,
       append_assoc v.claim_texts w.claim_texts u.claim_texts,
+      append_assoc v.run_conditions w.run_conditions u.run_conditions,
+      append_assoc v.condition_numbers w.condition_numbers u.condition_numbers,
+      append_assoc v.condition_texts w.condition_texts u.condition_texts,
+      append_assoc v.rests w.rests u.rests,
       append_assoc v.rules w.rules u.rules,
       append_assoc v.rule_numbers w.rule_numbers u.rule_numbers,
       append_assoc v.rule_texts w.rule_texts u.rule_texts,

@@ -13,8 +13,9 @@ use Rattle.work_rules.specs.declared.work_rule.WorkRule.{WorkRule}
 use Rattle.expectation_files.specs.Words.{words_on, in_one_line}
 use Rattle.expectation_files.specs.Addresses.{Names}
 use Rattle.expectation_files.specs.ClaimLines.{ClaimValue}
-use Rattle.expectation_files.specs.Lines.{Meaning, Nothing, End, Claimed, Rules, Work, NeverBusy, NeverStarved, Marked, MeaningSaid}
-use Rattle.expectation_files.specs.Lines.{said_after, has_after}
+use Rattle.expectation_files.specs.Conditions.{ConditionValue, RestValue}
+use Rattle.expectation_files.specs.Lines.{Meaning, Nothing, End, Claimed, OfRuns, Rests, Rules, Work, NeverBusy, NeverStarved, Marked}
+use Rattle.expectation_files.specs.Lines.{MeaningSaid, said_after, has_after}
 use Rattle.expectation_files.specs.declared.faults.FileFault.{FileFault}
 use Rattle.expectation_files.specs.declared.faults.FileFault.TheVariants as file
 
@@ -27,6 +28,10 @@ pub record RequirementsValue : Type 0 where
   pub claims : List ClaimValue
   pub claim_numbers : List ℕ
   pub claim_texts : List (List ℕ)
+  pub run_conditions : List ConditionValue
+  pub condition_numbers : List ℕ
+  pub condition_texts : List (List ℕ)
+  pub rests : List RestValue
   pub rules : List ProgramRule
   pub rule_numbers : List ℕ
   pub rule_texts : List (List ℕ)
@@ -44,6 +49,10 @@ nothing_said = record {
   claims = [];
   claim_numbers = [];
   claim_texts = [];
+  run_conditions = [];
+  condition_numbers = [];
+  condition_texts = [];
+  rests = [];
   rules = [];
   rule_numbers = [];
   rule_texts = [];
@@ -63,7 +72,7 @@ abbrev pub words_of_rule : ℕ → List (List ℕ) → List (List ℕ)
 words_of_rule k [] = []
 words_of_rule k (name ∷ os) = if names_operations name then name ∷ slice_index_or os k [] ∷ [] else name ∷ os
 
--- the texts of the first so many rules of a line with these words, of programs or of who does the work
+-- the texts of the first so many rules of a line with these words, of programs, of who does the work or of conditions on runs
 abbrev pub texts_of_rules : List (List ℕ) → ℕ → List (List ℕ)
 texts_of_rules ws zero = []
 texts_of_rules ws (suc k) = texts_of_rules ws k ++ in_one_line (words_of_rule k ws) ∷ []
@@ -78,6 +87,10 @@ said_on k l (End e) = record {
   claims = [];
   claim_numbers = [];
   claim_texts = [];
+  run_conditions = [];
+  condition_numbers = [];
+  condition_texts = [];
+  rests = [];
   rules = [];
   rule_numbers = [];
   rule_texts = [];
@@ -94,6 +107,50 @@ said_on k l (Claimed c) = record {
   claims = c ∷ [];
   claim_numbers = k ∷ [];
   claim_texts = in_one_line (words_on l) ∷ [];
+  run_conditions = [];
+  condition_numbers = [];
+  condition_texts = [];
+  rests = [];
+  rules = [];
+  rule_numbers = [];
+  rule_texts = [];
+  work = [];
+  work_numbers = [];
+  work_texts = [];
+  never_busy = None;
+  never_starved = None;
+}
+said_on k l (OfRuns cs) = record {
+  ends = [];
+  end_numbers = [];
+  end_texts = [];
+  claims = [];
+  claim_numbers = [];
+  claim_texts = [];
+  run_conditions = cs;
+  condition_numbers = replicate (length cs) k;
+  condition_texts = texts_of_rules (words_on l) (length cs);
+  rests = [];
+  rules = [];
+  rule_numbers = [];
+  rule_texts = [];
+  work = [];
+  work_numbers = [];
+  work_texts = [];
+  never_busy = None;
+  never_starved = None;
+}
+said_on k l (Rests r) = record {
+  ends = [];
+  end_numbers = [];
+  end_texts = [];
+  claims = [];
+  claim_numbers = [];
+  claim_texts = [];
+  run_conditions = [];
+  condition_numbers = [];
+  condition_texts = [];
+  rests = r ∷ [];
   rules = [];
   rule_numbers = [];
   rule_texts = [];
@@ -110,6 +167,10 @@ said_on k l (Rules rs) = record {
   claims = [];
   claim_numbers = [];
   claim_texts = [];
+  run_conditions = [];
+  condition_numbers = [];
+  condition_texts = [];
+  rests = [];
   rules = rs;
   rule_numbers = replicate (length rs) k;
   rule_texts = texts_of_rules (words_on l) (length rs);
@@ -126,6 +187,10 @@ said_on k l (Work rs) = record {
   claims = [];
   claim_numbers = [];
   claim_texts = [];
+  run_conditions = [];
+  condition_numbers = [];
+  condition_texts = [];
+  rests = [];
   rules = [];
   rule_numbers = [];
   rule_texts = [];
@@ -142,6 +207,10 @@ said_on k l NeverBusy = record {
   claims = [];
   claim_numbers = [];
   claim_texts = [];
+  run_conditions = [];
+  condition_numbers = [];
+  condition_texts = [];
+  rests = [];
   rules = [];
   rule_numbers = [];
   rule_texts = [];
@@ -158,6 +227,10 @@ said_on k l NeverStarved = record {
   claims = [];
   claim_numbers = [];
   claim_texts = [];
+  run_conditions = [];
+  condition_numbers = [];
+  condition_texts = [];
+  rests = [];
   rules = [];
   rule_numbers = [];
   rule_texts = [];
@@ -178,6 +251,10 @@ joined v w = record {
   claims = v.claims ++ w.claims;
   claim_numbers = v.claim_numbers ++ w.claim_numbers;
   claim_texts = v.claim_texts ++ w.claim_texts;
+  run_conditions = v.run_conditions ++ w.run_conditions;
+  condition_numbers = v.condition_numbers ++ w.condition_numbers;
+  condition_texts = v.condition_texts ++ w.condition_texts;
+  rests = v.rests ++ w.rests;
   rules = v.rules ++ w.rules;
   rule_numbers = v.rule_numbers ++ w.rule_numbers;
   rule_texts = v.rule_texts ++ w.rule_texts;
@@ -212,7 +289,9 @@ abbrev pub is_nothing : RequirementsValue → Bool
 is_nothing v =
     length v.ends == 0
     && (length v.claims == 0
-    && (length v.rules == 0 && (length v.work == 0 && (not (is_some v.never_busy) && not (is_some v.never_starved)))))
+    && (length v.run_conditions == 0
+    && (length v.rests == 0
+    && (length v.rules == 0 && (length v.work == 0 && (not (is_some v.never_busy) && not (is_some v.never_starved)))))))
 
 -- a file has to say something
 abbrev pub unless_nothing : FileSaid → FileSaid

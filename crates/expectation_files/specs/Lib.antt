@@ -6,6 +6,10 @@ pub mod Addresses
 pub mod WordLines
 pub mod EndLines
 pub mod ClaimLines
+pub mod Conditions
+pub mod LeadsLines
+pub mod OvertakingLines
+pub mod RestLines
 pub mod RuleLines
 pub mod WorkLines
 pub mod Marks

@@ -11,6 +11,10 @@ use Rattle.expectation_files.specs.Addresses.{Names}
 use Rattle.expectation_files.specs.WordLines.{Said, at, word_said, words_said, sum_said}
 use Rattle.expectation_files.specs.EndLines.{register_said, finished_said, stopped_said, waits_said, loops_said}
 use Rattle.expectation_files.specs.ClaimLines.{ClaimValue, claim_said}
+use Rattle.expectation_files.specs.Conditions.{ConditionValue, ConditionsSaid, RestValue, RestSaid}
+use Rattle.expectation_files.specs.LeadsLines.{is_leading, leads_said}
+use Rattle.expectation_files.specs.OvertakingLines.{is_overtaking, overtaking_said}
+use Rattle.expectation_files.specs.RestLines.{is_resting, rest_said}
 use Rattle.expectation_files.specs.RuleLines.{RulesSaid, entries_said, most_words_said, operations_said}
 use Rattle.expectation_files.specs.WorkLines.{WorkSaid, each_said, least_said}
 use Rattle.expectation_files.specs.Marks.{MarkSaid, mark_named}
@@ -20,12 +24,15 @@ use Rattle.expectation_files.specs.declared.faults.LineFault.{LineFault}
 use Rattle.expectation_files.specs.declared.faults.LineFaultKind.TheVariants as fault
 use Rattle.expectation_files.specs.declared.rule_lines.OperationVerb.TheVariants.{Forbid, Require}
 
--- what a line says: nothing; what the end of a run has to be, or may be; a claim about worlds; rules for the program; who does the
--- work in a run; that no stream ever loops alone; that none can wait forever; how the case counts to which the file belongs
+-- what a line says: nothing; what the end of a run has to be, or may be; a claim about worlds; conditions on runs; where a
+-- stream may rest; rules for the program; who does the work in a run; that no stream ever loops alone; that none can wait
+-- forever; how the case counts to which the file belongs
 pub data Meaning : Type 0 where
   Nothing : Meaning
   End : Expectation → Meaning
   Claimed : ClaimValue → Meaning
+  OfRuns : List ConditionValue → Meaning
+  Rests : RestValue → Meaning
   Rules : List ProgramRule → Meaning
   Work : List WorkRule → Meaning
   NeverBusy : Meaning
@@ -42,6 +49,14 @@ end_of (Ok e) = Ok (End e)
 abbrev pub claim_of : Result ClaimValue LineFault → MeaningSaid
 claim_of (Err f) = Err f
 claim_of (Ok c) = Ok (Claimed c)
+
+abbrev pub runs_of : ConditionsSaid → MeaningSaid
+runs_of (Err f) = Err f
+runs_of (Ok cs) = Ok (OfRuns cs)
+
+abbrev pub rests_of : RestSaid → MeaningSaid
+rests_of (Err f) = Err f
+rests_of (Ok r) = Ok (Rests r)
 
 abbrev pub rules_of : RulesSaid → MeaningSaid
 rules_of (Err f) = Err f
@@ -119,7 +134,11 @@ meaning_named names i name os =
 
 abbrev pub words_meaning : Names → ImageValue → List (List ℕ) → MeaningSaid
 words_meaning names i [] = Ok Nothing
-words_meaning names i (name ∷ os) = meaning_named names i name os
+words_meaning names i (name ∷ os) =
+    if is_resting name os then rests_of (rest_said names i name os)
+    else (if is_leading os then runs_of (leads_said names i name os)
+    else (if is_overtaking os then runs_of (overtaking_said names i name os)
+    else meaning_named names i name os))
 
 -- what a line says of a program with these names and this image, or its fault
 unfoldable pub line_said : Names → ImageValue → List ℕ → MeaningSaid
@@ -132,6 +151,8 @@ is_points (Marked mark.Hidden) = false
 is_points Nothing = false
 is_points (End e) = false
 is_points (Claimed c) = false
+is_points (OfRuns cs) = false
+is_points (Rests r) = false
 is_points (Rules rs) = false
 is_points (Work rs) = false
 is_points NeverBusy = false

@@ -10,6 +10,8 @@ ghost use Rattle.expectation_files.specs.Addresses.{Names, unbracketed, multiple
 ghost use Rattle.expectation_files.specs.Addresses.{address_by_name, no_address, address_said, range_said, after_point};
 ghost use Rattle.expectation_files.specs.Addresses.{behind_points, number_after, program_word, word_behind, has_label};
 ghost use Rattle.expectation_files.specs.Addresses.{place_by, place_said, places_said, range_between, places_between};
+ghost use Rattle.text_parts.specs.Pieces.{text_after};
+ghost use Rattle.expectation_files.specs.LeadsLines.{range_or_place};
 ghost use Rattle.expectation_files.specs.Seen.{names_in};
 
 use crate::faults::LineFaultKind;
@@ -180,6 +182,25 @@ fn after_point(text: Option<&[u8]>) -> Option<&[u8]>
         Some([b'.', rest @ ..]) => Some(rest),
         _ => None,
     }
+}
+
+/// The program words of a range, or one program word alone, of so many.
+pub(crate) fn place_or_places_said(
+    names: KnownNames<'_, '_, '_>,
+    count: usize,
+    text: &[u8],
+) -> Result<PlaceRange, LineFaultKind>
+    ensures { result ≡ range_or_place (names_in names.entry) count text.now (text_after 46 text.now) }
+{
+    let (_, rest) = cut(text, b'.');
+    if rest.is_some() {
+        return places_said(names, count, text);
+    }
+    let place = place_said(names, count, text)?;
+    Ok(PlaceRange {
+        first: place,
+        last: place,
+    })
 }
 
 /// The program words of a range `FIRST..LAST`, of so many.

@@ -196,7 +196,7 @@ fn without_comma(range: &[u8]) -> &[u8]
 }
 
 /// The stream that the word of this number names, which the image has, and which is none of those of its group before it.
-fn next_stream(
+pub(crate) fn next_stream(
     image: &Image,
     number: usize,
     before: &[Step],

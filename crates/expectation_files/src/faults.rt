@@ -30,6 +30,12 @@ pub enum LineForm {
     Loops,
     /// `always`, `never` or `some`, about the states on the way.
     Claim,
+    /// `leads to`, about streams that come from one range of program words to another.
+    Leads,
+    /// `is overtaken`, about how many times a stream is overtaken while it waits.
+    Overtaken,
+    /// `may rest`, about where a stream need not be given steps.
+    Rest,
     /// `entries`, about how many entries the program has.
     Entries,
     /// `at most N words`, about how many program words it has.
@@ -79,7 +85,7 @@ pub enum LineFaultKind {
     Busy,
     /// So does `starved`.
     Starved,
-    /// The group of the claim has named this stream before.
+    /// The line, or the group of its claim, has named this stream before.
     Twice,
     /// The program has no word at this address.
     MissingWord,

@@ -15,12 +15,15 @@ use crate::addresses::KnownNames;
 use crate::claim_lines::read_claim;
 use crate::end_lines::{read_finished, read_loops, read_register, read_stopped, read_waits};
 use crate::faults::{LineFault, LineFaultKind, Unread};
+use crate::leads_lines::{is_leading, read_leads};
 use crate::marks::{CaseMark, mark_named};
+use crate::overtaking_lines::{is_overtaking, read_overtaking};
+use crate::rest_lines::{is_resting, read_rest};
 use crate::rule_lines::{OperationVerb, read_entries, read_most_words, read_operations};
 use crate::word_lines::{read_sum, read_word, read_words};
 use crate::words::{Operands, next_word, read_operands, statement_of};
 use crate::work_lines::{read_each, read_least};
-use claims::{Claim, Scope};
+use claims::{Claim, Rest, RunCondition, Scope};
 use expectations::Expectation;
 use image_file::Image;
 use program_rules::ProgramRule;
@@ -36,6 +39,10 @@ pub(crate) enum LineMeaning {
     End(Expectation),
     /// What has to hold of the states on the way.
     Claim(Claim),
+    /// What the runs have to be.
+    Runs(Vec<RunCondition>),
+    /// Where a stream may rest.
+    Rest(Rest),
     /// What the program itself has to be.
     Rules(Vec<ProgramRule>),
     /// Who does the work in each run.
@@ -66,6 +73,8 @@ impl LineMeaning {
             | LineMeaning::Nothing
             | LineMeaning::End(_)
             | LineMeaning::Claim(_)
+            | LineMeaning::Runs(_)
+            | LineMeaning::Rest(_)
             | LineMeaning::Rules(_)
             | LineMeaning::Work(_)
             | LineMeaning::NeverBusy
@@ -107,7 +116,18 @@ fn read_line(
         → line_said (names_in names.entry) image.now line.now ≡ Err f) }
 {
     match next_word(statement_of(line)) {
-        Some((name, rest)) => read_named(alloc, names, image, name, rest),
+        Some((name, rest)) => {
+            if is_resting(name, rest) {
+                return Ok(LineMeaning::Rest(read_rest(alloc, names, image, name, rest)?));
+            }
+            if is_leading(rest) {
+                return Ok(LineMeaning::Runs(read_leads(alloc, names, image, name, rest)?));
+            }
+            if is_overtaking(rest) {
+                return Ok(LineMeaning::Runs(read_overtaking(alloc, names, image, name, rest)?));
+            }
+            read_named(alloc, names, image, name, rest)
+        }
         None => Ok(LineMeaning::Nothing),
     }
 }

@@ -1,15 +1,15 @@
 //! What is required of a program.
 
-ghost use Rattle.std.specs.Prelude.{◌≡◌, ◌↔◌, OnOk, IsTrue};
+ghost use Rattle.std.specs.Prelude.{◌≡◌, ◌↔◌, map, OnOk, IsTrue};
 ghost use Rattle.expectation_files.specs.Judged.{IsJudged, are_rules_kept};
 ghost use Rattle.program_rules.specs.Keeping.{is_kept};
 ghost use Rattle.expectation_files.specs.Files.{nothing_said, said_on, joined, is_nothing};
-ghost use Rattle.expectation_files.specs.Seen.{requirements_seen, meaning_seen};
-ghost use Rattle.expectation_files.specs.Lines.{Rules, Work};
+ghost use Rattle.expectation_files.specs.Seen.{requirements_seen, meaning_seen, condition_seen};
+ghost use Rattle.expectation_files.specs.Lines.{OfRuns, Rules, Work};
 
 use crate::lines::LineMeaning;
 use crate::written_lines::{push_rule_lines, written};
-use claims::Claim;
+use claims::{Claim, Rest, RunCondition};
 use expectations::Expectation;
 use image_file::Image;
 use program_rules::{ProgramRule, is_kept};
@@ -39,6 +39,9 @@ pub struct Requirements {
     end_lines: Vec<WrittenLine>,
     claims: Vec<Claim>,
     claim_lines: Vec<WrittenLine>,
+    run_conditions: Vec<RunCondition>,
+    condition_lines: Vec<WrittenLine>,
+    rests: Vec<Rest>,
     rules: Vec<ProgramRule>,
     rule_lines: Vec<WrittenLine>,
     work: Vec<WorkRule>,
@@ -57,6 +60,9 @@ impl Requirements {
             end_lines: Vec::new(alloc),
             claims: Vec::new(alloc),
             claim_lines: Vec::new(alloc),
+            run_conditions: Vec::new(alloc),
+            condition_lines: Vec::new(alloc),
+            rests: Vec::new(alloc),
             rules: Vec::new(alloc),
             rule_lines: Vec::new(alloc),
             work: Vec::new(alloc),
@@ -72,6 +78,8 @@ impl Requirements {
     {
         self.ends.is_empty()
             && self.claims.is_empty()
+            && self.run_conditions.is_empty()
+            && self.rests.is_empty()
             && self.rules.is_empty()
             && self.work.is_empty()
             && self.never_busy.is_none()
@@ -104,6 +112,27 @@ impl Requirements {
         ensures { result.now ≡ self.now.claim_lines.items }
     {
         &self.claim_lines
+    }
+
+    /// What the runs have to be, in the order of the lines, and of the streams of a line.
+    pub fn run_conditions(&self) -> &[RunCondition]
+        ensures { result.now ≡ self.now.run_conditions.items }
+    {
+        &self.run_conditions
+    }
+
+    /// The lines that say it, one each.
+    pub fn condition_lines(&self) -> &[WrittenLine]
+        ensures { result.now ≡ self.now.condition_lines.items }
+    {
+        &self.condition_lines
+    }
+
+    /// The streams that may rest, in the order of the lines.
+    pub fn rests(&self) -> &[Rest]
+        ensures { result.now ≡ self.now.rests.items }
+    {
+        &self.rests
     }
 
     /// What the program itself has to be, in the order of the lines, and of the operations of a line.
@@ -156,7 +185,7 @@ impl Requirements {
     }
 
     /// Adds what the line of this number says.
-    #[tactic(auto, using(crate::proofs::Joined::joined_nothing, crate::proofs::Joined::joined_end, crate::proofs::Joined::joined_claim, crate::proofs::Joined::joined_busy, crate::proofs::Joined::joined_starved))]
+    #[tactic(auto, using(crate::proofs::Joined::joined_nothing, crate::proofs::Joined::joined_end, crate::proofs::Joined::joined_claim, crate::proofs::Joined::joined_rest, crate::proofs::Joined::joined_busy, crate::proofs::Joined::joined_starved))]
     pub(crate) fn add(
         &mut self,
         alloc: Global,
@@ -177,6 +206,8 @@ impl Requirements {
                 self.claims.push(claim)?;
                 Ok(self.claim_lines.push(written(alloc, number, line)?)?)
             }
+            LineMeaning::Runs(conditions) => self.add_conditions(alloc, number, line, conditions),
+            LineMeaning::Rest(rest) => Ok(self.rests.push(rest)?),
             LineMeaning::Rules(rules) => self.add_rules(alloc, number, line, &rules),
             LineMeaning::Work(rules) => self.add_work(alloc, number, line, &rules),
             LineMeaning::NeverBusy => {
@@ -188,6 +219,23 @@ impl Requirements {
                 Ok(())
             }
         }
+    }
+
+    /// Adds what the line of this number says of runs.
+    #[tactic(auto, using(crate::proofs::Joined::joined_conditions))]
+    fn add_conditions(
+        &mut self,
+        alloc: Global,
+        number: usize,
+        line: &[u8],
+        mut conditions: Vec<RunCondition>,
+    ) -> Result<(), AllocError>
+        ensures { OnOk result (requirements_seen self.new
+            ≡ joined (requirements_seen self.old) (said_on number line.now (OfRuns (map condition_seen conditions.items)))) }
+    {
+        let count = conditions.len();
+        self.run_conditions.append(&mut conditions)?;
+        push_rule_lines(alloc, &mut self.condition_lines, number, line, count)
     }
 
     /// Adds the rules that the line of this number says.

@@ -7,7 +7,7 @@ use std::alloc::{AllocError, Global};
 
 /// The words with which lines begin.
 const FIRST_WORDS: &str =
-    "a line begins with word, words, sum, register, finished, stopped, always, never, some, each, at least, entries, at most, forbid, require, points or hidden";
+    "a line begins with word, words, sum, register, finished, stopped, waits, loops, always, never, some, each, at least, entries, at most, forbid, require, points, hidden or a stream such as 0.0";
 
 /// Which byte addresses some memory has a word at.
 const ADDRESSES: &str = "no memory has a word at this address: multiples of 8 below 2097152";
@@ -166,6 +166,14 @@ fn form_words(form: LineForm) -> &'static str {
         LineForm::Claim => {
             "after always, never or some comes word ADDRESS is VALUE, word ADDRESS above|below VALUE [signed], word ADDRESS is|above|below word ADDRESS [+ NUMBER] [signed], word ADDRESS full|empty, or at most|least N of P.S .. in FIRST..LAST[, P.S .. in FIRST..LAST]"
         }
+        LineForm::Leads => {
+            "a line about what leads to what is P.S in PLACES leads to P.S in PLACES, \
+             or each of P.S .. in PLACES leads to PLACES, perhaps with by steps at its end"
+        }
+        LineForm::Overtaken => {
+            "a line about overtaking is P.S in PLACES is overtaken at most N times by P.S at PLACES, N at most 1000"
+        }
+        LineForm::Rest => "a line about rest is P.S may rest in PLACES",
         LineForm::Entries => "a line about entries is entries N",
         LineForm::MostWords => "a line about the size of the program is at most N words",
         LineForm::Operations => "after forbid or require come names of operations",

@@ -2,7 +2,6 @@ use Rattle.std.proofs.Common.{◌≡◌, false}
 use Rattle.std.specs.Option.{option_copied}
 use Rattle.text_parts.specs.Pieces.{pieces, rest_pieces, rest_length}
 use Rattle.expectation_files.specs.Marks.{marks_from}
-use Rattle.expectation_files.specs.declared.marks.CaseMarks.{CaseMarks}
 use Rattle.expectation_files.proofs.marks.case_marks.Given as goal
 
 -- what the lines to come say after what was found is what the text says
