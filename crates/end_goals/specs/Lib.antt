@@ -1,3 +1,5 @@
--- What public contracts promise: which ends are right, and which one is a first goal.
+-- What public contracts promise: which ends are right, and which one is a first goal, and which
+-- word says it.
 pub mod RightEnds
 pub mod Goals
+pub mod GoalWords

@@ -1,7 +1,9 @@
 //! The first goal of a reader.
 
-ghost use Rattle.std.specs.Prelude.{◌≡◌, ◌==◌};
+ghost use Rattle.std.specs.Prelude.{◌≡◌, ◌==◌, IfSome, Err};
 ghost use Rattle.std.specs.List.{position};
+ghost use Rattle.std.specs.Str.Parse.{ParsesUnsigned};
+ghost use Rattle.end_goals.specs.GoalWords.{number_in, name_of, IsNoName};
 ghost use Rattle.end_goals.specs.Goals.{is_goal, place_of_goal, place_of_number, is_yes, is_no};
 ghost use Rattle.end_goals.specs.RightEnds.{is_breaking};
 ghost use Rattle.end_goals.specs.Goals.{is_finished, is_stopped, is_deadlock, is_waiting, is_spinning, is_looping};
@@ -9,19 +11,6 @@ ghost use Rattle.end_goals.specs.Goals.{is_finished, is_stopped, is_deadlock, is
 use crate::right_ends::{EndCriteria, is_breaking};
 use end_kinds::EndKind;
 use space_ends::{SpaceEnd, SpaceEndKind};
-
-/// The words for goals, but for numbers.
-const NAMED: [EndGoal; 9] = [
-    EndGoal::Right,
-    EndGoal::Wrong,
-    EndGoal::Finished,
-    EndGoal::Stopped,
-    EndGoal::Deadlock,
-    EndGoal::Waiting,
-    EndGoal::Spinning,
-    EndGoal::Looping,
-    EndGoal::Broken,
-];
 
 /// An end that a reader is to reach first: one of a number, or the first of its kind.
 #[derive(Clone, Copy, Debug, PartialEq, Eq)]
@@ -52,26 +41,14 @@ pub enum EndGoal {
 
 impl EndGoal {
     /// The goal that a word says: a number, or the name of a kind.
-    pub fn of_word(word: &str) -> EndGoal {
+    pub fn of_word(word: &str) -> EndGoal
+        ensures number { ParsesUnsigned 64 10 word.now (number_in result) }
+        ensures named { IfSome (name_of result) (λ name. name ≡ word.now) }
+        ensures unknown { result ≡ EndGoal.Unknown → IsNoName word.now }
+    {
         match word.parse::<usize>() {
             Ok(number) => EndGoal::Number(number),
             Err(_) => goal_named(word),
-        }
-    }
-
-    /// Whether a word is the name of the goal; a number is no name.
-    fn has_name(self, word: &str) -> bool {
-        match self {
-            EndGoal::Number(_) | EndGoal::Unknown => false,
-            EndGoal::Right => word == "right",
-            EndGoal::Wrong => word == "wrong",
-            EndGoal::Finished => word == EndKind::Finished.json_name(),
-            EndGoal::Stopped => word == EndKind::Stopped.json_name(),
-            EndGoal::Deadlock => word == EndKind::Deadlock.json_name(),
-            EndGoal::Waiting => word == EndKind::Waiting.json_name(),
-            EndGoal::Spinning => word == EndKind::Spinning.json_name(),
-            EndGoal::Looping => word == EndKind::Looping.json_name(),
-            EndGoal::Broken => word == SpaceEndKind::Busy.json_name(),
         }
     }
 
@@ -125,12 +102,38 @@ impl EndGoal {
     }
 }
 
-/// The goal of a name.
-fn goal_named(word: &str) -> EndGoal {
-    for goal in &NAMED {
-        if goal.has_name(word) {
-            return *goal;
-        }
+/// The goal of a name; `Unknown` where no goal has it.
+fn goal_named(word: &str) -> EndGoal
+    ensures named { IfSome (name_of result) (λ name. name ≡ word.now) }
+    ensures unknown { result ≡ EndGoal.Unknown → IsNoName word.now }
+    ensures no_number { number_in result ≡ Err result }
+{
+    if word == "right" {
+        return EndGoal::Right;
+    }
+    if word == "wrong" {
+        return EndGoal::Wrong;
+    }
+    if word == EndKind::Finished.json_name() {
+        return EndGoal::Finished;
+    }
+    if word == EndKind::Stopped.json_name() {
+        return EndGoal::Stopped;
+    }
+    if word == EndKind::Deadlock.json_name() {
+        return EndGoal::Deadlock;
+    }
+    if word == EndKind::Waiting.json_name() {
+        return EndGoal::Waiting;
+    }
+    if word == EndKind::Spinning.json_name() {
+        return EndGoal::Spinning;
+    }
+    if word == EndKind::Looping.json_name() {
+        return EndGoal::Looping;
+    }
+    if word == SpaceEndKind::Busy.json_name() {
+        return EndGoal::Broken;
     }
     EndGoal::Unknown
 }

@@ -1,5 +1,5 @@
 -- No end shows any flaw where none shows each, and the worst flaw is the first that any end shows.
-use Rattle.std.proofs.Common.{List, ℕ, ◌<◌, ◌≡◌, arith}
+use Rattle.std.proofs.Common.{List, ℕ, ◌<◌, arith}
 use Rattle.seed_outcomes.specs.SpaceEndsTypes.SpaceEnd.{SpaceEnd}
 use Rattle.judgements.specs.declared.end_flaws.EndFlaw.{EndFlaw}
 use Rattle.judgements.specs.Flaws.{NoneShows, ShowNothing, IsFirstToShow, IsWorstFlaw, flaw_rank}

@@ -4,7 +4,10 @@ mod Flaws
 mod Statuses
 mod Right
 mod Shown
+mod Reasons
 mod WhatWasRun
 mod ReadCases
 mod Pushed
 mod WhoStarves
+mod WhatEvades
+mod CaseFaults

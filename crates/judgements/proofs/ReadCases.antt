@@ -1,6 +1,6 @@
 -- A submission is judged by a case that speaks of what it has, as the program that the case makes of it is.
-use Rattle.std.proofs.Common.{◌≡◌, ◌∙◌, ◌⊎◌, ℕ, Bool, true, false, List, inl, inr, sym, subst, Result, Ok, Err, Some, None}
-use Rattle.std.specs.Prelude.{IsTrue, IfOk}
+use Rattle.std.proofs.Common.{◌≡◌, ◌∙◌, ◌⊎◌, ℕ, Bool, true, false, List, inl, inr, ap, sym, subst, Result, Ok, Err, Some, None}
+use Rattle.std.specs.Prelude.{IsTrue, IfOk, max}
 use Rattle.image_file.specs.ImageValue.{ImageValue}
 use Rattle.expectation_files.specs.Judged.{are_rules_kept}
 use Rattle.expectation_files.specs.Seen.{requirements_seen}
@@ -12,11 +12,14 @@ use Rattle.judgements.specs.Right.{IsRightAsAsked, IsWorkDone}
 use Rattle.judgements.specs.Shown.{JudgedAs, judged_as, IsShownBy, IsRunFor, IsCaseJudged, IsCaseKnown, IsReadCase}
 use Rattle.judgements.specs.Shown.{IsUnjudged, IsNotGivenBy}
 use Rattle.judgements.specs.Shown.{kind_without_name}
-use Rattle.judgements.specs.Statuses.{IsAsBadAsKind}
+use Rattle.end_kinds.specs.Statuses.{badness}
+use Rattle.judgements.specs.Statuses.{badness_of_run, status_of_kind, IsAsBadAsKind, IsStatusOfRun}
 use Rattle.judgements.specs.declared.cases.Case.{Case}
 use Rattle.judgements.specs.declared.cases.AskedJudging.{AskedJudging}
 use Rattle.judgements.specs.declared.case_judgements.CaseJudgement.{CaseJudgement}
+use Rattle.judgements.specs.declared.case_judgements.Reason.{Reason}
 use Rattle.judgements.specs.declared.case_judgements.Reason.TheVariants as reason
+use Rattle.judgements.specs.declared.verdict_kinds.VerdictKind.{VerdictKind}
 use Rattle.judgements.specs.declared.verdict_kinds.VerdictKind.TheVariants as verdict
 use Rattle.judgements.proofs.Judged.{something}
 
@@ -111,6 +114,7 @@ unjudged_alike asked image text case j k kind known why (inl absent) = inl (reco
   fault = absent.fault;
   reason = why ∙ absent.reason;
   said = absent.said;
+  of_program = absent.of_program;
   kind = kind ∙ absent.kind;
   unrun = known ∙ absent.unrun;
 })
@@ -152,11 +156,16 @@ known_alike asked image text case j k kind known why ends (inr unjudged) =
 -- so what is known by a case is judged, with a status as bad as the verdict
 pub with_status : (asked : AskedJudging) (image : ImageValue) (text : List ℕ) (case : Case) (j k : CaseJudgement)
     → IsCaseKnown asked image text case j → k.kind ≡ j.kind → k.known ≡ j.known → k.reason ≡ j.reason → k.ends ≡ j.ends
-    → IsAsBadAsKind k → IsCaseJudged asked image text case k
-with_status asked image text case j k known kind looked why ends status = record {
+    → IsAsBadAsKind k → badness k.status ≡ max (badness (status_of_kind j.kind)) (badness j.status)
+    → IsStatusOfRun asked j → IsCaseJudged asked image text case k
+with_status asked image text case j k known kind looked why ends status worse run = record {
   known = record {
     right = λ yes. known.right (sym kind ∙ yes);
     shown = known_alike asked image text case j k kind looked why ends known.shown;
   };
   status = status;
+  exact = λ unsearched uncounted.
+      worse ∙ ap (λ n. max (badness (status_of_kind j.kind)) n) (run unsearched uncounted)
+      ∙ ap (λ (r : Reason). max (badness (status_of_kind j.kind)) (badness_of_run r)) (sym why)
+      ∙ ap (λ (v : VerdictKind). max (badness (status_of_kind v)) (badness_of_run k.reason)) (sym kind);
 }

@@ -45,9 +45,11 @@ as_not_decided p ends (reason.Run run) left h = absurd (run_is_wrong run.flaw h.
 as_not_decided p ends (reason.End place) left h = absurd (end_is_wrong h.flaw h.verdict)
 as_not_decided p ends (reason.NoSchedule claim) left h = let e = h.verdict in absurd cc
 as_not_decided p ends (reason.Starved x) left h = let e = h.verdict in absurd cc
+as_not_decided p ends (reason.Evaded v) left h = let e = h.verdict in absurd cc
 as_not_decided p ends (reason.NoRun claim) left h = let e = h.verdict in absurd cc
 as_not_decided p ends reason.NoRunCan left h = let e = h.verdict in absurd cc
 as_not_decided p ends reason.OpenWaits left h = let e = h.verdict in absurd cc
+as_not_decided p ends reason.OpenConditions left h = let e = h.verdict in absurd cc
 as_not_decided p ends (reason.Rule rule) left h = let e = h.verdict in absurd cc
 as_not_decided p ends (reason.Work missed) left h = absurd (work_is_wrong missed.end h.verdict)
 as_not_decided p ends (reason.Absent number fault) left h = absurd h
@@ -102,9 +104,12 @@ left_by_all p ends kind (reason.NoSchedule claim) e h =
     let shut : false ≡ true = ap is_open (sym h.verdict) ∙ e in absurd cc
 left_by_all p ends kind (reason.Starved x) e h =
     let shut : false ≡ true = ap is_open (sym h.verdict) ∙ e in absurd cc
+left_by_all p ends kind (reason.Evaded v) e h =
+    let shut : false ≡ true = ap is_open (sym h.verdict) ∙ e in absurd cc
 left_by_all p ends kind (reason.NoRun claim) e h = refl
 left_by_all p ends kind reason.NoRunCan e h = refl
 left_by_all p ends kind reason.OpenWaits e h = refl
+left_by_all p ends kind reason.OpenConditions e h = refl
 left_by_all p ends kind (reason.Rule rule) e h =
     let shut : false ≡ true = ap is_open (sym h.verdict) ∙ e in absurd cc
 left_by_all p ends kind (reason.Work missed) e h =
@@ -125,9 +130,11 @@ same_seeds p ends kind (reason.Run run) works e h first = refl
 same_seeds p ends kind (reason.End place) works e h first = refl
 same_seeds p ends kind (reason.NoSchedule claim) works e h first = refl
 same_seeds p ends kind (reason.Starved x) works e h first = refl
+same_seeds p ends kind (reason.Evaded v) works e h first = refl
 same_seeds p ends kind (reason.NoRun claim) works e h first = refl
 same_seeds p ends kind reason.NoRunCan works e h first = refl
 same_seeds p ends kind reason.OpenWaits works e h first = refl
+same_seeds p ends kind reason.OpenConditions works e h first = refl
 same_seeds p ends kind (reason.Rule rule) works e h first = refl
 same_seeds p ends kind (reason.Work missed) works e h first = refl
 same_seeds p ends kind (reason.Absent number fault) works e h first = refl

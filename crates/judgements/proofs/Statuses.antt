@@ -6,8 +6,11 @@ use Rattle.std.proofs.lemmas.Option.{same_Some}
 use Rattle.end_kinds.specs.Statuses.{badness}
 use Rattle.end_kinds.specs.declared.statuses.Status.{Status}
 use Rattle.program_searches.specs.Statuses.{worse, worst}
-use Rattle.judgements.specs.Statuses.{status_of_kind, statuses_of}
+use Rattle.judgements.specs.Known.{is_by_all_runs}
+use Rattle.judgements.specs.Statuses.{badness_of_run, status_of_kind, statuses_of}
 use Rattle.judgements.specs.declared.case_judgements.CaseJudgement.{CaseJudgement}
+use Rattle.judgements.specs.declared.case_judgements.Reason.{Reason}
+use Rattle.judgements.specs.declared.case_judgements.Reason.TheVariants as reason
 use Rattle.judgements.specs.declared.verdict_kinds.VerdictKind.{VerdictKind}
 use Rattle.judgements.specs.declared.verdict_kinds.VerdictKind.TheVariants as verdict
 
@@ -56,3 +59,21 @@ right_if_done verdict.RanOutOfSteps h = absurd (omega (arith, h))
 right_if_done verdict.NotJudged h = absurd (omega (arith, h))
 right_if_done verdict.NotDecided h = absurd (omega (arith, h))
 right_if_done verdict.Right h = refl
+
+-- where no single run decides, no end of a run counts
+pub no_bad_run : (why : Reason) → is_by_all_runs why ≡ true → badness_of_run why ≡ 0
+no_bad_run reason.Looked e = refl
+no_bad_run (reason.Run run) e = absurd cc
+no_bad_run (reason.End place) e = refl
+no_bad_run (reason.NoSchedule claim) e = refl
+no_bad_run (reason.Starved x) e = refl
+no_bad_run (reason.Evaded v) e = refl
+no_bad_run (reason.NoRun claim) e = refl
+no_bad_run reason.NoRunCan e = refl
+no_bad_run reason.OpenWaits e = refl
+no_bad_run reason.OpenConditions e = refl
+no_bad_run (reason.Rule rule) e = refl
+no_bad_run (reason.Work missed) e = refl
+no_bad_run (reason.Absent number fault) e = refl
+no_bad_run (reason.Lacking name) e = refl
+no_bad_run (reason.NotGiven number) e = refl

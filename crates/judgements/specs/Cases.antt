@@ -1,12 +1,15 @@
 -- What a case makes of a submission, and what it requires of it.
-use Rattle.std.specs.Prelude.{◌≡◌, ℕ, ⊤, ◌==◌, if◌then◌else◌, List, [], ◌∷◌, length, Option, Some, None, unwrap_or, Ok, Err, IsNone}
+use Rattle.std.specs.Prelude.{◌≡◌, ℕ, ⊤, ◌==◌, ◌||◌, Bool, true, false, if◌then◌else◌, List, [], ◌∷◌, length, Option, Some, None, unwrap_or, Ok, Err, IsNone}
 use Rattle.image_file.specs.ImageValue.{ImageValue}
 use Rattle.source_places.specs.DataNames.{DataNameValue, data_names}
 use Rattle.source_places.specs.SourceLabels.{labels_of}
 use Rattle.expectation_files.specs.Addresses.{Names}
 use Rattle.expectation_files.specs.Files.{FileSaid, file_said}
 use Rattle.expectation_files.specs.declared.faults.FileFault.TheVariants as file
+use Rattle.expectation_files.specs.OfProgram.{is_of_program}
 use Rattle.expectation_files.specs.declared.faults.LineFault.{LineFault}
+use Rattle.expectation_files.specs.declared.faults.LineFaultKind.{LineFaultKind}
+use Rattle.expectation_files.specs.declared.faults.LineFaultKind.TheVariants as line_fault
 use Rattle.expectation_files.specs.Seen.{requirements_seen}
 use Rattle.expectation_files.specs.declared.requirements.Requirements.{Requirements}
 use Rattle.case_cells.specs.NamedWords.{places_by_name, given_cells}
@@ -103,6 +106,15 @@ pub data SpeaksOfOthers (image : ImageValue) (text : List ℕ) (case : Case) (ce
 abbrev pub SpeaksOfOthersIn : ImageValue → List ℕ → Case → Option ImageValue → Requirements → Type 0
 SpeaksOfOthersIn image text case None required = ⊥
 SpeaksOfOthersIn image text case (Some cells) required = SpeaksOfOthers image text case cells required
+
+-- Whether a line with such a fault may be right of another program: it names what this one lacks, or words that stand the
+-- other way round here.
+abbrev pub is_range : LineFaultKind → Bool
+is_range line_fault.Range = true
+is_range other = false
+
+abbrev pub may_be_of_program : LineFaultKind → Bool
+may_be_of_program k = is_of_program k || is_range k
 
 -- the seeds that are tried
 abbrev pub seeds_of : AskedJudging → Seeds

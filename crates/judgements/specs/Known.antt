@@ -9,6 +9,7 @@ use Rattle.seed_outcomes.specs.SeedVerdictsTypes.Seeds.{Seeds}
 use Rattle.seed_outcomes.specs.SpaceEndsTypes.SpaceEnd.{SpaceEnd}
 use Rattle.seed_work.specs.SeedWork.{IsWorkJudged}
 use Rattle.judgements.specs.Starved.{IsFirstStarving}
+use Rattle.judgements.specs.Evaded.{IsFirstEvasion, answers_in}
 use Rattle.judgements.specs.declared.case_judgements.CaseJudgement.{CaseJudgement}
 use Rattle.judgements.specs.declared.case_judgements.Reason.{Reason}
 use Rattle.judgements.specs.declared.case_judgements.Reason.TheVariants as reason
@@ -72,9 +73,11 @@ comes_with_search searches first (reason.Run run) = not first && searches
 comes_with_search searches first (reason.End place) = searches
 comes_with_search searches first (reason.NoSchedule claim) = searches
 comes_with_search searches first (reason.Starved x) = searches
+comes_with_search searches first (reason.Evaded e) = searches
 comes_with_search searches first (reason.NoRun claim) = searches
 comes_with_search searches first reason.NoRunCan = searches
 comes_with_search searches first reason.OpenWaits = searches
+comes_with_search searches first reason.OpenConditions = searches
 comes_with_search searches first (reason.Rule rule) = false
 comes_with_search searches first (reason.Work missed) = searches
 comes_with_search searches first (reason.Absent number fault) = false
@@ -89,9 +92,11 @@ comes_with_seeds first works kind (reason.Run run) = true
 comes_with_seeds first works kind (reason.End place) = first
 comes_with_seeds first works kind (reason.NoSchedule claim) = first
 comes_with_seeds first works kind (reason.Starved x) = first
+comes_with_seeds first works kind (reason.Evaded e) = first
 comes_with_seeds first works kind (reason.NoRun claim) = true
 comes_with_seeds first works kind reason.NoRunCan = true
 comes_with_seeds first works kind reason.OpenWaits = true
+comes_with_seeds first works kind reason.OpenConditions = true
 comes_with_seeds first works kind (reason.Rule rule) = false
 comes_with_seeds first works kind (reason.Work missed) = true
 comes_with_seeds first works kind (reason.Absent number fault) = false
@@ -99,16 +104,18 @@ comes_with_seeds first works kind (reason.Lacking name) = false
 comes_with_seeds first works kind (reason.NotGiven number) = false
 
 -- what a search came to by which a verdict of this kind is decided: it lists these ends, is complete, shows this stream first
--- that can wait forever, or says right
+-- that can wait forever, or this run first that evades a condition, or says right
 abbrev pub HasDecided : Explored → List SpaceEnd → VerdictKind → Reason → Type 0
 HasDecided found ends kind reason.Looked = kind ≡ verdict.Right → IsTrue found.is_right
 HasDecided found ends kind (reason.Run run) = ⊤
 HasDecided found ends kind (reason.End place) = found.ends.items ≡ ends
 HasDecided found ends kind (reason.NoSchedule claim) = IsTrue found.is_complete
 HasDecided found ends kind (reason.Starved x) = IsFirstStarving (starving_in found.waits) x
+HasDecided found ends kind (reason.Evaded e) = IsFirstEvasion 0 (answers_in found.kept) e
 HasDecided found ends kind (reason.NoRun claim) = ⊤
 HasDecided found ends kind reason.NoRunCan = ⊤
 HasDecided found ends kind reason.OpenWaits = ⊤
+HasDecided found ends kind reason.OpenConditions = ⊤
 HasDecided found ends kind (reason.Rule rule) = ⊤
 HasDecided found ends kind (reason.Work missed) = ⊤
 HasDecided found ends kind (reason.Absent number fault) = ⊤
@@ -128,9 +135,11 @@ AreTried image required seeds (reason.Run run) n = n ≡ run.seed + 1
 AreTried image required seeds (reason.End place) n = (n ≡ seeds.count) × AreAllRun image required seeds
 AreTried image required seeds (reason.NoSchedule claim) n = (n ≡ seeds.count) × AreAllRun image required seeds
 AreTried image required seeds (reason.Starved x) n = (n ≡ seeds.count) × AreAllRun image required seeds
+AreTried image required seeds (reason.Evaded e) n = (n ≡ seeds.count) × AreAllRun image required seeds
 AreTried image required seeds (reason.NoRun claim) n = (n ≡ seeds.count) × AreAllRun image required seeds
 AreTried image required seeds reason.NoRunCan n = (n ≡ seeds.count) × AreAllRun image required seeds
 AreTried image required seeds reason.OpenWaits n = (n ≡ seeds.count) × AreAllRun image required seeds
+AreTried image required seeds reason.OpenConditions n = (n ≡ seeds.count) × AreAllRun image required seeds
 AreTried image required seeds (reason.Rule rule) n = ⊥
 AreTried image required seeds (reason.Work missed) n = n ≡ missed.seed + 1
 AreTried image required seeds (reason.Absent number fault) n = ⊥
@@ -149,9 +158,11 @@ is_by_all_runs (reason.Run run) = false
 is_by_all_runs (reason.End place) = false
 is_by_all_runs (reason.NoSchedule claim) = false
 is_by_all_runs (reason.Starved x) = false
+is_by_all_runs (reason.Evaded e) = false
 is_by_all_runs (reason.NoRun claim) = true
 is_by_all_runs reason.NoRunCan = true
 is_by_all_runs reason.OpenWaits = true
+is_by_all_runs reason.OpenConditions = true
 is_by_all_runs (reason.Rule rule) = false
 is_by_all_runs (reason.Work missed) = false
 is_by_all_runs (reason.Absent number fault) = false
@@ -174,9 +185,11 @@ is_by_search (reason.Run run) = false
 is_by_search (reason.End place) = true
 is_by_search (reason.NoSchedule claim) = true
 is_by_search (reason.Starved x) = true
+is_by_search (reason.Evaded e) = true
 is_by_search (reason.NoRun claim) = false
 is_by_search reason.NoRunCan = false
 is_by_search reason.OpenWaits = false
+is_by_search reason.OpenConditions = false
 is_by_search (reason.Rule rule) = false
 is_by_search (reason.Work missed) = false
 is_by_search (reason.Absent number fault) = false

@@ -5,6 +5,7 @@ use Rattle.lab_requests.specs.declared.requests.Bounds.{Bounds}
 use Rattle.expectation_files.specs.Judged.{IsJudged}
 use Rattle.expectation_files.specs.Seen.{requirements_seen}
 use Rattle.expectation_files.specs.declared.requirements.Requirements.{Requirements}
+use Rattle.program_searches.specs.RunAnswers.Kept.{AllKept}
 use Rattle.program_searches.specs.StarvingStreams.Starving.{NobodyWaits}
 use Rattle.seed_outcomes.specs.ScheduleVerdicts.ShownClaims.{IsRightThroughout}
 use Rattle.seed_outcomes.specs.SeedVerdicts.Seeds.{AreJudged}
@@ -15,18 +16,21 @@ use Rattle.judgements.specs.Cases.{program_by, said_by, seeds_of, SpeaksOfGivenI
 use Rattle.judgements.specs.declared.cases.Case.{Case}
 use Rattle.judgements.specs.declared.cases.AskedJudging.{AskedJudging}
 
--- Every schedule of a program is right; and nobody can wait forever, if that is required.
+-- Every schedule of a program is right; nobody can wait forever, if that is required; and all runs keep each condition that
+-- is required.
 pub record IsRightBySchedules (image : ImageValue) (required : Requirements) : Type 0 where
   pub right : IsRightThroughout image [] required.ends.items required.claims.items (is_some required.never_busy)
-  pub unstarved : IsSome required.never_starved → NobodyWaits image []
+  pub unstarved : IsSome required.never_starved → NobodyWaits image [] required.rests.items
+  pub kept : AllKept image [] required.rests.items required.run_conditions.items
 
 -- The run of each seed is right, the runs show each claim that has to hold of one world at least, and it is required neither
--- that no stream loops alone nor that none can wait forever, which no run shows.
+-- that no stream loops alone, nor that none can wait forever, nor that all runs keep some condition, which seeds do not decide.
 pub record IsRightBySeeds (image : ImageValue) (required : Requirements) (seeds : Seeds) : Type 0 where
   pub judged : AreJudged image required.ends.items required.claims.items seeds None
   pub shown : AreShownBySeeds image required.claims.items seeds
   pub unasked : IsNone required.never_busy
   pub unasked_waits : IsNone required.never_starved
+  pub unasked_conditions : required.run_conditions.items ≡ []
 
 -- The run of each seed meets the lines about who does the work, where there are some. A search does not decide these: it
 -- takes states for one that were come to by the work of different streams.

@@ -1,6 +1,6 @@
 -- What shows a verdict.
-use Rattle.std.specs.Prelude.{◌≡◌, ◌⊎◌, ◌↔◌, ℕ, List, [], Option, Some, None, Ok, Err, not, Bool, IsTrue, IsFalse, IsSome, is_some, if◌then◌else◌, ◌||◌}
-use Rattle.std.specs.List.{position}
+use Rattle.std.specs.Prelude.{◌≡◌, ◌⊎◌, ◌↔◌, ℕ, List, [], slice_get, false, Option, Some, None, Ok, Err, not, Bool, IsTrue, IsFalse, IsSome, is_some, if◌then◌else◌, ◌||◌}
+use Rattle.std.specs.List.{position, list_any}
 use Rattle.image_file.specs.ImageValue.{ImageValue}
 use Rattle.processor.specs.declared.steps.Step.{Step}
 use Rattle.machine.specs.MachineValue.{MachineValue}
@@ -17,6 +17,9 @@ use Rattle.expectation_files.specs.declared.faults.FileFault.TheVariants as file
 use Rattle.expectation_files.specs.declared.faults.LineFault.{LineFault}
 use Rattle.expectation_files.specs.declared.requirements.Requirements.{Requirements}
 use Rattle.program_searches.specs.Searches.{IsExplored}
+use Rattle.program_searches.specs.Kept.{asks_conditions, is_evaded}
+use Rattle.program_searches.specs.RunAnswers.Answers as evaded
+use Rattle.program_searches.specs.RunAnswersTypes.RunCondition.{RunCondition}
 use Rattle.program_searches.specs.StarvingStreams.Reports.{IsShown}
 use Rattle.program_searches.specs.StarvingStreamsTypes.Starving.{Starving}
 use Rattle.program_searches.specs.Statuses.{unkept_in}
@@ -32,12 +35,14 @@ use Rattle.seed_outcomes.specs.SpaceEndsTypes.SpaceEnd.{SpaceEnd}
 use Rattle.seed_work.specs.SeedWork.{IsWorkJudged}
 use Rattle.seed_work.specs.declared.missed_work.MissedWork.{MissedWork}
 use Rattle.case_cells.specs.NamedWords.{name_lacking}
-use Rattle.judgements.specs.Cases.{program_by, said_by, seeds_of, SpeaksOfOthersIn}
+use Rattle.judgements.specs.Cases.{program_by, said_by, seeds_of, may_be_of_program, SpeaksOfOthersIn}
 use Rattle.judgements.specs.Known.{known_by, comes_with_search, comes_with_seeds, AreSeedsKnown, HasDecided, IsKnownBySearch, has_work}
 use Rattle.judgements.specs.Flaws.{kind_of_run, kind_of_work, kind_of_end, ShowNothing, IsWorstFlaw}
 use Rattle.judgements.specs.Right.{IsRightCase}
 use Rattle.judgements.specs.Starved.{IsFirstStarving}
-use Rattle.judgements.specs.Statuses.{IsAsBadAsKind}
+use Rattle.judgements.specs.Evaded.{IsFirstEvasion, answers_in}
+use Rattle.judgements.specs.declared.evaded.Evasion.{Evasion}
+use Rattle.judgements.specs.Statuses.{IsAsBadAsKind, IsStatusByRuns}
 use Rattle.judgements.specs.declared.cases.Case.{Case}
 use Rattle.judgements.specs.declared.cases.AskedJudging.{AskedJudging}
 use Rattle.judgements.specs.declared.case_judgements.CaseJudgement.{CaseJudgement}
@@ -123,7 +128,18 @@ pub record IsStarvedBySchedules (limits : Option SearchLimits) (image : ImageVal
   pub search : IsFound limits image required found
   pub first : IsFirstStarving (starving_in found.waits) x
   pub asked : IsSome required.never_starved
-  pub shown : IsShown image [] x
+  pub shown : IsShown image [] required.rests.items x
+  pub verdict : kind ≡ verdict.Wrong
+
+-- A search shows this run first that evades a condition, by a shortest schedule to where it begins to.
+pub record IsEvadedBySchedules (limits : Option SearchLimits) (image : ImageValue) (required : Requirements)
+    (kind : VerdictKind) (e : Evasion) : Type 0 where
+  pub found : Explored
+  pub search : IsFound limits image required found
+  pub first : IsFirstEvasion 0 (answers_in found.kept) e
+  pub asked : RunCondition
+  pub which : slice_get required.run_conditions.items e.place ≡ Some asked
+  pub shown : evaded.IsShown image [] required.rests.items asked e.run
   pub verdict : kind ≡ verdict.Wrong
 
 -- A search found nothing against a program, and not either that it is right.
@@ -133,6 +149,7 @@ pub record IsLeftOpen (limits : Option SearchLimits) (image : ImageValue) (requi
   pub flawless : ShowNothing found.ends.items
   pub shown : (unkept_in found).unshown ≡ None
   pub unstarved : starving_in found.waits ≡ []
+  pub unevaded : list_any is_evaded (answers_in found.kept) ≡ false
   pub not_right : IsFalse found.is_right
 
 -- The program of an image breaks a rule, the first of those that are required.
@@ -168,6 +185,14 @@ pub record IsBeyondRunsOfWaits (image : ImageValue) (required : Requirements) (s
   pub asked : IsSome required.never_starved
   pub verdict : kind ≡ verdict.NotDecided
 
+-- The same where all runs are to keep some condition, which seeds do not decide.
+pub record IsBeyondRunsOfConditions (image : ImageValue) (required : Requirements) (seeds : Seeds) (kind : VerdictKind)
+    : Type 0 where
+  pub judged : AreJudged image required.ends.items required.claims.items seeds None
+  pub shown : AreShownBySeeds image required.claims.items seeds
+  pub asked : IsTrue (asks_conditions required)
+  pub verdict : kind ≡ verdict.NotDecided
+
 -- it is a verdict by what was looked at alone: right, or left open by a search
 abbrev pub IsLooked : Option SearchLimits → ImageValue → Requirements → VerdictKind → Type 0
 IsLooked limits image required kind =
@@ -187,9 +212,11 @@ IsShownFor p ends kind (reason.Run run) = IsShownByRun p.image p.required p.seed
 IsShownFor p ends kind (reason.End place) = IsShownByEnd p.limits p.image p.required ends kind place
 IsShownFor p ends kind (reason.NoSchedule claim) = IsUnshownBySchedules p.limits p.image p.required kind claim
 IsShownFor p ends kind (reason.Starved x) = IsStarvedBySchedules p.limits p.image p.required kind x
+IsShownFor p ends kind (reason.Evaded e) = IsEvadedBySchedules p.limits p.image p.required kind e
 IsShownFor p ends kind (reason.NoRun claim) = IsUnshownByRuns p.image p.required p.seeds kind claim
 IsShownFor p ends kind reason.NoRunCan = IsBeyondRuns p.image p.required p.seeds kind
 IsShownFor p ends kind reason.OpenWaits = IsBeyondRunsOfWaits p.image p.required p.seeds kind
+IsShownFor p ends kind reason.OpenConditions = IsBeyondRunsOfConditions p.image p.required p.seeds kind
 IsShownFor p ends kind (reason.Rule rule) = IsShownByRule p.image p.required kind rule
 IsShownFor p ends kind (reason.Work missed) = IsShownByWork p.image p.required p.seeds kind missed
 IsShownFor p ends kind (reason.Absent number fault) = ⊥
@@ -264,6 +291,7 @@ pub record IsAbsent (image : ImageValue) (text : List ℕ) (case : Case) (j : Ca
   pub fault : LineFault
   pub reason : j.reason ≡ reason.Absent number fault
   pub said : said_by case (program_by image text case) text ≡ Err (file.Line number fault)
+  pub of_program : IsTrue (may_be_of_program fault.kind)
   pub kind : j.kind ≡ verdict.NotJudged
   pub unrun : j.known ≡ known_by None None
 
@@ -311,3 +339,4 @@ pub record IsCaseJudged (asked : AskedJudging) (image : ImageValue) (text : List
     : Type 0 where
   pub known : IsCaseKnown asked image text case j
   pub status : IsAsBadAsKind j
+  pub exact : IsStatusByRuns asked j

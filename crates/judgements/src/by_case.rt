@@ -1,12 +1,15 @@
 //! What is known of a submission by one case.
 
-ghost use Rattle.std.specs.Prelude.{◌≡◌, ◌⊎◌, not, false, IsTrue, IfOk, IfNone, None};
+ghost use Rattle.std.specs.Prelude.{◌≡◌, ◌⊎◌, not, false, IsTrue, IfOk, IfErr, IfNone, None};
 ghost use Rattle.std.specs.List.{position};
 ghost use Rattle.program_rules.specs.Keeping.{is_kept};
 ghost use Rattle.expectation_files.specs.Judged.{are_rules_kept};
-ghost use Rattle.judgements.specs.Cases.{seeds_of, SpeaksOfGivenIn};
+ghost use Rattle.expectation_files.specs.OfProgram.{is_of_program};
+ghost use Rattle.judgements.specs.Cases.{seeds_of, may_be_of_program, SpeaksOfGivenIn};
+ghost use Rattle.judgements.specs.Faults.{IsCaseFault, IsLinesFault, IsSearchFault};
 ghost use Rattle.judgements.specs.Known.{has_work, known_by};
 ghost use Rattle.judgements.specs.Right.{IsRightAsAsked, IsWorkDone};
+ghost use Rattle.judgements.specs.Statuses.{IsStatusOfRun};
 ghost use Rattle.judgements.specs.Shown.{IsCaseJudged, IsCaseKnown, IsRunFor, IsShownBy, IsNotGivenBy, judged_as, kind_without_name};
 
 use crate::by_schedules::{JudgedProgram, judged_by_schedules};
@@ -37,7 +40,9 @@ pub(crate) fn judged_by_case<X: Threads + Sync, C: Clock, E: Write>(
     submission: Submission<'_>,
     console: &mut Console<'_, C, E>,
 ) -> Result<CaseJudgement, CaseFault>
-    ensures { IfOk result (λ j. IsCaseJudged asked submission.entry.image.now submission.entry.text.now case.now j) }
+    ensures known { IfOk result (λ j. IsCaseJudged asked submission.entry.image.now submission.entry.text.now case.now j) }
+    ensures fault { IfErr result (λ f. IsCaseFault
+        asked submission.entry.image.now submission.entry.text.now case.now f) }
 {
     let known = known_by_case(rt, alloc, asked, case, submission, console)?;
     Ok(known.with_status())
@@ -52,7 +57,10 @@ fn known_by_case<X: Threads + Sync, C: Clock, E: Write>(
     submission: Submission<'_>,
     console: &mut Console<'_, C, E>,
 ) -> Result<CaseJudgement, CaseFault>
-    ensures { IfOk result (λ j. IsCaseKnown asked submission.entry.image.now submission.entry.text.now case.now j) }
+    ensures known { IfOk result (λ j. IsCaseKnown asked submission.entry.image.now submission.entry.text.now case.now j) }
+    ensures fault { IfErr result (λ f. IsCaseFault
+        asked submission.entry.image.now submission.entry.text.now case.now f) }
+    ensures status { IfOk result (λ j. IsStatusOfRun asked j) }
 {
     if let Some(name) = name_lacking(alloc, asked.needs_names, &case.given, submission.text)? {
         return Ok(judged_without_name(alloc, asked, name));
@@ -80,6 +88,7 @@ fn judged_without_name(alloc: Global, asked: AskedJudging, name: usize) -> CaseJ
     ensures kind { result.kind ≡ kind_without_name asked.needs_names }
     ensures known { result.known ≡ known_by None None }
     ensures reason { result.reason ≡ Reason.Lacking name }
+    ensures status { IsStatusOfRun asked result }
 {
     let reason = Reason::Lacking { name };
     CaseJudgement::plain(alloc, kind_without_name(asked), Known::NOTHING, reason)
@@ -111,6 +120,8 @@ fn judged_by_lines<X: Threads + Sync, C: Clock, E: Write>(
         IsRunFor (judged_as asked judged.entry.image.now judged.entry.required.now) asked.is_thorough
         (has_work judged.entry.required.now) j
         ⊎ IsNotGivenBy judged.entry.image.now text.entry.now case.entry.now judged.entry.required.now j) }
+    ensures fault { IfErr result (λ f. IsLinesFault asked.explored judged.entry.image.now text.entry.now case.entry.now f) }
+    ensures status { IfOk result (λ j. IsStatusOfRun asked j) }
 {
     if let Some(line) = line_not_given(alloc, case, judged.image, text, judged.required)? {
         let reason = Reason::NotGiven { line };
@@ -132,7 +143,10 @@ fn kind_without_name(asked: AskedJudging) -> VerdictKind
 
 /// Whether a line of a case may be right of another program: it names what this one lacks, or words that stand the other
 /// way round here.
-fn is_of_program(case: &Case, line: usize, fault: LineFault) -> bool {
+fn is_of_program(case: &Case, line: usize, fault: LineFault) -> bool
+    ensures only { IsTrue result → IsTrue (may_be_of_program fault.kind) }
+    ensures is { IsTrue (is_of_program fault.kind) → IsTrue result }
+{
     let is_of_names = fault.kind == LineFaultKind::Range
         && has_name(word_of(line_of(&case.expected, line), fault.word).as_bytes());
     is_of_names || fault.kind.is_of_program()
@@ -169,6 +183,8 @@ fn judged_program<X: Threads + Sync, C: Clock, E: Write>(
     ensures shown { IfOk result (λ j. IsShownBy (judged_as asked judged.entry.image.now judged.entry.required.now) j) }
     ensures run { IfOk result (λ j. IsRunFor (judged_as asked judged.entry.image.now judged.entry.required.now)
         asked.is_thorough (has_work judged.entry.required.now) j) }
+    ensures fault { IfErr result (λ f. IsSearchFault asked.explored f) }
+    ensures status { IfOk result (λ j. IsStatusOfRun asked j) }
 {
     if let Some(rule) = broken_rule(judged) {
         let reason = Reason::Rule(rule);
@@ -191,6 +207,8 @@ fn judged_as_asked<X: Threads + Sync, C: Clock, E: Write>(
     ensures shown { IfOk result (λ j. IsShownBy (judged_as asked judged.entry.image.now judged.entry.required.now) j) }
     ensures run { IfOk result (λ j. IsRunFor (judged_as asked judged.entry.image.now judged.entry.required.now)
         asked.is_thorough false j) }
+    ensures fault { IfErr result (λ f. IsSearchFault asked.explored f) }
+    ensures status { IfOk result (λ j. IsStatusOfRun asked j) }
 {
     match asked.explored {
         Some(bounds) if asked.is_thorough => {

@@ -1,6 +1,7 @@
 //! What every schedule says of a submission.
 
-ghost use Rattle.std.specs.Prelude.{◌≡◌, ◌⊎◌, true, false, IsTrue, IfOk, None, Some, []};
+ghost use Rattle.std.specs.Prelude.{◌≡◌, ◌⊎◌, true, false, IsTrue, IfOk, IfErr, None, Some, []};
+ghost use Rattle.judgements.specs.Faults.{IsSearchFault};
 ghost use Rattle.judgements.specs.Known.{HasDecided, IsKnownBySearch, is_by_search, is_open, known_by};
 ghost use Rattle.judgements.specs.Right.{IsRightBySchedules};
 ghost use Rattle.judgements.specs.Shown.{JudgedAs, IsFound, IsLeftOpen, IsShownBy, IsShownFor, IsShownWithin, judged_within, limits_of};
@@ -10,6 +11,7 @@ use crate::by_seeds::judged_by_seeds;
 use crate::case_judgements::{CaseJudgement, Reason};
 use crate::cases::AskedJudging;
 use crate::end_flaws::first_end_flaw;
+use crate::evaded::first_evasion;
 use crate::judge_faults::CaseFault;
 use crate::knowledge::Known;
 use crate::starved::first_starving;
@@ -43,9 +45,9 @@ pub(crate) struct SearchJudgement {
 
 /// What every schedule says of a program: the first that holds of any of its ends of a trap, a deadlock, a wrong end, a
 /// broken claim, a set of worlds that spin. Where none does, it is whether some schedule shows each claim that has to hold
-/// of one world at least, and then who can wait forever, where nobody is to. If the search has none of them and did not
-/// find all worlds, or not who can wait, random schedules are tried: what they say, and where they say right, that it is
-/// not decided. The status is the worst over all.
+/// of one world at least, then who can wait forever, where nobody is to, and then whether all runs keep each condition. If
+/// the search has none of them and did not find all worlds, or does not know of these, random schedules are tried: what they
+/// say, and where they say right, that it is not decided. The status is the worst over all.
 pub(crate) fn judged_by_schedules<X: Threads + Sync, C: Clock, E: Write>(
     rt: &X,
     alloc: Global,
@@ -60,6 +62,7 @@ pub(crate) fn judged_by_schedules<X: Threads + Sync, C: Clock, E: Write>(
         (judged_within (Some bounds) asked judged.entry.image.now judged.entry.required.now) j) }
     ensures run { IfOk result (λ j. IsRunFor
         (judged_within (Some bounds) asked judged.entry.image.now judged.entry.required.now) false false j) }
+    ensures fault { IfErr result (λ f. IsSearchFault (Some bounds) f) }
 {
     let searched = searched(alloc, bounds, judged, console)?;
     if searched.judgement.kind.is_not_decided() {
@@ -83,6 +86,7 @@ pub(crate) fn searched<C: Clock, E: Write>(
         → IsLeftOpen (limits_of (Some bounds)) judged.entry.image.now judged.entry.required.now) }
     ensures known { IfOk result (λ s. IsOfSearch
         (limits_of (Some bounds)) judged.entry.image.now judged.entry.required.now s.judgement) }
+    ensures fault { IfErr result (λ f. IsSearchFault (Some bounds) f) }
 {
     let search = search_of(bounds, judged);
     let found = explore_program(alloc, judged.image, &search, console)?;
@@ -145,6 +149,10 @@ fn decided_by(alloc: Global, found: &Explored<'_>) -> Result<(VerdictKind, Reaso
     let starved = first_starving(alloc, found)?;
     if let Some(starving) = starved {
         return Ok((VerdictKind::Wrong, Reason::Starved(starving)));
+    }
+    let evaded = first_evasion(alloc, found)?;
+    if let Some(evasion) = evaded {
+        return Ok((VerdictKind::Wrong, Reason::Evaded(evasion)));
     }
     if found.is_right {
         return Ok((VerdictKind::Right, Reason::Looked));

@@ -6,6 +6,8 @@ ghost use Rattle.judgements.specs.Cases.{seeds_of};
 ghost use Rattle.judgements.specs.Flaws.{kind_of_run};
 ghost use Rattle.judgements.specs.Known.{IsKnownByRuns, is_open, known_by};
 ghost use Rattle.judgements.specs.Right.{IsRightBySeeds};
+ghost use Rattle.end_kinds.specs.Statuses.{badness};
+ghost use Rattle.judgements.specs.Statuses.{badness_of_run};
 ghost use Rattle.judgements.specs.Shown.{EndsAsShown, IsShownWithoutSearch};
 
 use crate::case_judgements::{CaseJudgement, Reason, ShownRun};
@@ -58,6 +60,7 @@ pub(crate) fn judged_by_seeds<X: Threads + Sync>(
         → IsRightBySeeds image.now required.now (seeds_of asked)) }
     ensures shown { IfOk result (λ j. IsShownWithoutSearch asked image.now required.now j) }
     ensures known { IfOk result (λ j. IsKnownByRuns image.now required.now (seeds_of asked) j) }
+    ensures status { IfOk result (λ j. asked.counts_all ≡ false → badness j.status ≡ badness_of_run j.reason) }
 {
     let judgement = judged_by_runs(rt, alloc, asked, image, required)?;
     if !asked.counts_all {
@@ -79,6 +82,7 @@ fn judged_by_runs<X: Threads + Sync>(
         → IsRightBySeeds image.now required.now (seeds_of asked)) }
     ensures shown { IfOk result (λ j. IsShownWithoutSearch asked image.now required.now j) }
     ensures known { IfOk result (λ j. IsKnownByRuns image.now required.now (seeds_of asked) j) }
+    ensures status { IfOk result (λ j. badness j.status ≡ badness_of_run j.reason) }
 {
     match flaw_of(rt, alloc, asked, image, required)? {
         Some(found) => judged_by_flaw(alloc, asked, image, required, found),
@@ -116,6 +120,7 @@ fn judged_flawless(
         → IsRightBySeeds image.now required.now (seeds_of asked)) }
     ensures shown { IfOk result (λ j. IsShownWithoutSearch asked image.now required.now j) }
     ensures known { IfOk result (λ j. IsKnownByRuns image.now required.now (seeds_of asked) j) }
+    ensures status { IfOk result (λ j. badness j.status ≡ badness_of_run j.reason) }
 {
     let known = known_of(asked.seeds);
     if let Some(claim) = unshown_by_seeds(alloc, image, required.claims(), asked.sampled())? {
@@ -128,6 +133,10 @@ fn judged_flawless(
     }
     if required.never_starved().is_some() {
         let reason = Reason::OpenWaits;
+        return Ok(CaseJudgement::plain(alloc, VerdictKind::NotDecided, known, reason));
+    }
+    if !required.run_conditions().is_empty() {
+        let reason = Reason::OpenConditions;
         return Ok(CaseJudgement::plain(alloc, VerdictKind::NotDecided, known, reason));
     }
     Ok(CaseJudgement::plain(alloc, VerdictKind::Right, known, Reason::Looked))
@@ -205,6 +214,7 @@ fn judged_by_flaw(
     ensures right { IfOk result (λ j. ¬ (j.kind ≡ VerdictKind.Right)) }
     ensures shown { IfOk result (λ j. IsShownWithoutSearch asked image.now required.now j) }
     ensures known { IfOk result (λ j. IsKnownByRuns image.now required.now (seeds_of asked) j) }
+    ensures status { IfOk result (λ j. badness j.status ≡ badness_of_run j.reason) }
 {
     let run = run_shown(alloc, asked, image, required, found)?;
     let status = run.end.judgement.status();

@@ -6,6 +6,7 @@ ghost use Rattle.judgements.specs.Cases.{seeds_of};
 ghost use Rattle.judgements.specs.Flaws.{kind_of_work};
 ghost use Rattle.judgements.specs.Known.{has_work};
 ghost use Rattle.judgements.specs.Right.{IsWorkDone};
+ghost use Rattle.judgements.specs.Statuses.{IsStatusOfRun};
 ghost use Rattle.judgements.specs.Shown.{IsRunFor, IsShownBy, judged_as};
 
 use crate::by_schedules::JudgedProgram;
@@ -42,6 +43,9 @@ pub(crate) fn with_work<X: Threads + Sync>(
         → IsRunFor (judged_as asked judged.entry.image.now judged.entry.required.now) asked.is_thorough false judgement
         → IsRunFor (judged_as asked judged.entry.image.now judged.entry.required.now) asked.is_thorough
         (has_work judged.entry.required.now) j) }
+    ensures status { IfOk result (λ j.
+        IsShownBy (judged_as asked judged.entry.image.now judged.entry.required.now) judgement
+        → IsStatusOfRun asked judgement → IsStatusOfRun asked j) }
 {
     if judged.required.work().is_empty() {
         return Ok(judgement);
@@ -99,6 +103,7 @@ fn judged_by_work(judgement: CaseJudgement, missed: MissedWork, tried: usize) ->
     ensures wrong { ¬ (result.kind ≡ VerdictKind.Right) }
     ensures known { result.known ≡ record judgement.known { seeds = Some tried } }
     ensures reason { result.reason ≡ Reason.Work missed }
+    ensures status { result.status ≡ judgement.status }
 {
     let mut judgement = judgement;
     judgement.kind = kind_of(missed.end);

@@ -1,10 +1,13 @@
 //! What is known of a submission by one case.
 
-ghost use Rattle.std.specs.Prelude.{◌≡◌, None, Some};
+ghost use Rattle.std.specs.Prelude.{◌≡◌, max, None, Some, IfOk};
 ghost use Rattle.judgements.specs.Missed.{expectation_at, missed_at_end, missed_in_run, missed_by};
 ghost use Rattle.judgements.specs.Shown.{JudgedAs, IsShownBy};
-ghost use Rattle.judgements.specs.Statuses.{IsAsBadAsKind};
+ghost use Rattle.end_kinds.specs.Statuses.{badness};
+ghost use Rattle.judgements.specs.Statuses.{IsAsBadAsKind, status_of_kind};
+ghost use Rattle.judgements.specs.Witnesses.{seed_in, seed_of, schedule_in, schedule_of};
 
+use crate::evaded::Evasion;
 use crate::knowledge::Known;
 use crate::verdict_kinds::VerdictKind;
 use end_kinds::{EndKind, Status};
@@ -45,6 +48,8 @@ pub enum Reason {
     },
     /// That this stream can wait forever, and none is to: the first one that the search shows.
     Starved(Starving),
+    /// That not all runs keep a condition: the first one of which the search shows a run that evades it.
+    Evaded(Evasion),
     /// That no run of all seeds shows a claim, which says nothing of other schedules.
     NoRun {
         /// The place of the first such claim among all.
@@ -54,6 +59,8 @@ pub enum Reason {
     NoRunCan,
     /// That nobody is to wait forever, which no run can show, and which no search decided, if there was one.
     OpenWaits,
+    /// That all runs are to keep some condition, which seeds do not decide, and which no search decided, if there was one.
+    OpenConditions,
     /// The rule of programs at this place, which the program breaks.
     Rule(usize),
     /// That the run of a seed does not meet a line about who does the work.
@@ -100,6 +107,8 @@ pub enum MissedLine {
     Busy,
     /// The first line that says that no stream can wait forever.
     Starved,
+    /// A condition on runs.
+    Condition(usize),
     /// A rule of programs.
     Rule(usize),
     /// What a stream, or some streams, have to do in a run.
@@ -142,6 +151,7 @@ impl CaseJudgement {
         ensures kind { result.kind ≡ kind }
         ensures known { result.known ≡ known }
         ensures reason { result.reason ≡ reason }
+        ensures status { result.status ≡ Status.Done }
     {
         CaseJudgement {
             kind,
@@ -160,6 +170,7 @@ impl CaseJudgement {
         ensures reason { result.reason ≡ self.reason }
         ensures ends { result.ends ≡ self.ends }
         ensures status { IsAsBadAsKind result }
+        ensures exact { badness result.status ≡ max (badness (status_of_kind self.kind)) (badness self.status) }
     {
         let mut judgement = self;
         judgement.status = judgement.status.worse(judgement.kind.status());
@@ -172,6 +183,7 @@ impl CaseJudgement {
         ensures known { result.known ≡ record self.known { seeds = seeds } }
         ensures reason { result.reason ≡ self.reason }
         ensures ends { result.ends ≡ self.ends }
+        ensures status { result.status ≡ self.status }
     {
         let mut judgement = self;
         judgement.known.seeds = seeds;
@@ -191,8 +203,12 @@ impl CaseJudgement {
         judgement
     }
 
-    /// What shows that the submission is not right: of a stream that can wait forever the schedule that leads to its round.
-    pub fn witness(&self, alloc: Global) -> Result<Witness, AllocError> {
+    /// What shows that the submission is not right: of a stream that can wait forever the schedule that leads to
+    /// its round, and of a run that evades a condition the schedule that leads to where it begins to do so.
+    pub fn witness(&self, alloc: Global) -> Result<Witness, AllocError>
+        ensures seed { IfOk result (λ w. seed_in w ≡ seed_of self.now.reason) }
+        ensures schedule { IfOk result (λ w. schedule_in w ≡ schedule_of self.now.ends.items self.now.reason) }
+    {
         match &self.reason {
             Reason::Run(run) => Ok(Witness::Seed(run.seed)),
             Reason::Work(missed) => Ok(Witness::Seed(missed.seed)),
@@ -203,11 +219,15 @@ impl CaseJudgement {
             Reason::Starved(shown) => {
                 Ok(Witness::Schedule(Vec::from_slice(alloc, &shown.stem)?))
             }
+            Reason::Evaded(shown) => {
+                Ok(Witness::Schedule(Vec::from_slice(alloc, &shown.run.stem)?))
+            }
             Reason::Looked
             | Reason::NoSchedule { .. }
             | Reason::NoRun { .. }
             | Reason::NoRunCan
             | Reason::OpenWaits
+            | Reason::OpenConditions
             | Reason::Rule(_)
             | Reason::Absent { .. }
             | Reason::Lacking { .. }
@@ -231,6 +251,8 @@ impl CaseJudgement {
             }
             Reason::NoRunCan => Some(MissedLine::Busy),
             Reason::Starved(_) | Reason::OpenWaits => Some(MissedLine::Starved),
+            Reason::Evaded(shown) => Some(MissedLine::Condition(shown.place)),
+            Reason::OpenConditions => Some(MissedLine::Condition(0)),
             Reason::Rule(place) => Some(MissedLine::Rule(*place)),
             Reason::Work(missed) => Some(MissedLine::Work(missed.rule)),
             Reason::Absent { line, fault } => Some(MissedLine::Absent {

@@ -1,5 +1,10 @@
 //! Why a submission was not judged.
 
+ghost use Rattle.std.specs.Prelude.{◌≡◌};
+ghost use Rattle.judgements.specs.Faults.{IsAtCase, IsByFile, IsBySearch};
+ghost use Rattle.judgements.specs.declared.judge_faults.JudgeFault.TheVariants.{NoMemory};
+ghost use Rattle.judgements.specs.declared.judge_faults.CaseFault.TheVariants as case_fault;
+
 use expectation_files::FileFault;
 use program_searches::SearchFault;
 use std::alloc::{AllocError, AllocFailed};
@@ -24,12 +29,16 @@ pub enum JudgeFault {
 }
 
 impl From<AllocError> for JudgeFault {
+    ghost from_gives = { λ _ fault. fault ≡ NoMemory };
+
     fn from(_error: AllocError) -> JudgeFault {
         JudgeFault::NoMemory
     }
 }
 
 impl<T: Drop> From<AllocFailed<T>> for JudgeFault {
+    ghost from_gives = { λ _ fault. fault ≡ NoMemory };
+
     fn from(_error: AllocFailed<T>) -> JudgeFault {
         JudgeFault::NoMemory
     }
@@ -48,7 +57,9 @@ pub(crate) enum CaseFault {
 
 impl CaseFault {
     /// The same of the case at a place.
-    pub(crate) fn of_case(self, case: usize) -> JudgeFault {
+    pub(crate) fn of_case(self, case: usize) -> JudgeFault
+        ensures { IsAtCase case self result }
+    {
         match self {
             CaseFault::Expectations(fault) => JudgeFault::Expectations { case, fault },
             CaseFault::NoMemory => JudgeFault::NoMemory,
@@ -58,12 +69,16 @@ impl CaseFault {
 }
 
 impl From<AllocError> for CaseFault {
+    ghost from_gives = { λ _ fault. fault ≡ case_fault.NoMemory };
+
     fn from(_error: AllocError) -> CaseFault {
         CaseFault::NoMemory
     }
 }
 
 impl From<SearchFault> for CaseFault {
+    ghost from_gives = { λ found fault. IsBySearch found fault };
+
     fn from(fault: SearchFault) -> CaseFault {
         match fault {
             SearchFault::NoMemory => CaseFault::NoMemory,
@@ -74,7 +89,9 @@ impl From<SearchFault> for CaseFault {
 
 impl CaseFault {
     /// That of a text with this fault.
-    pub(crate) fn of_file(fault: FileFault) -> CaseFault {
+    pub(crate) fn of_file(fault: FileFault) -> CaseFault
+        ensures { IsByFile fault result }
+    {
         match fault {
             FileFault::NoMemory => CaseFault::NoMemory,
             FileFault::Empty | FileFault::Line { .. } => CaseFault::Expectations(fault),

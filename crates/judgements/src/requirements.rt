@@ -6,6 +6,7 @@ ghost use Rattle.expectation_files.specs.Files.{file_said};
 ghost use Rattle.expectation_files.specs.declared.faults.FileFault.TheVariants as file;
 ghost use Rattle.source_places.specs.SourcePlaces.{data_names_seen, labels_seen};
 ghost use Rattle.case_cells.specs.NamedWords.{places_seen};
+ghost use Rattle.judgements.specs.Faults.{IsLinesFault};
 ghost use Rattle.judgements.specs.Cases.{said_by, said_in_submission, said_in_case, places_or, SpeaksOfGivenIn, SpeaksOfOthersIn};
 
 use crate::cases::Case;
@@ -68,9 +69,9 @@ fn required_in_case(
     }
 }
 
-/// The number, from 1, of the first line of a case that speaks of a word which the case's cells do not give, or which is
-/// another one in the submission: of those about the end, then of the claims, and then of those about who does the work. None if
-/// the case has no cells.
+/// The number, from 1, of the first line of a case that speaks of a word which the case's cells do not give, or which
+/// is another one in the submission: of those about the end, then of the claims, and then of those about who does the
+/// work. None if the case has no cells.
 pub(crate) fn line_not_given(
     alloc: Global,
     case: &Case,
@@ -82,6 +83,7 @@ pub(crate) fn line_not_given(
         (SpeaksOfGivenIn image.now text.now case.now case.now.cells required.now)) }
     ensures other { IfOk result (λ line. OnSome line
         (SpeaksOfOthersIn image.now text.now case.now case.now.cells required.now)) }
+    ensures fault { IfErr result (λ f. IsLinesFault None image.now text.now case.now f) }
 {
     let Some(cells) = &case.cells else {
         return Ok(None);

@@ -1,7 +1,9 @@
 //! What is known of a submission by all cases.
 
-ghost use Rattle.std.specs.Prelude.{◌≡◌, ◌<◌, length, IfOk};
+ghost use Rattle.std.specs.Prelude.{◌≡◌, ◌<◌, [], length, slice_get, IfOk, IfErr};
+ghost use Rattle.std.specs.Option.{option_copied};
 ghost use Rattle.program_searches.specs.Statuses.{worst};
+ghost use Rattle.judgements.specs.Faults.{IsJudgeFault};
 ghost use Rattle.judgements.specs.Statuses.{statuses_of};
 ghost use Rattle.judgements.specs.Verdicts.{AreCasesJudged, AreRightCases, IsWorst, IsKindAt, known_of_all, known_in, of_no_case};
 
@@ -33,7 +35,9 @@ pub struct SubmissionJudgement {
 
 impl SubmissionJudgement {
     /// What is known by the case that decides.
-    pub fn deciding(&self) -> Option<&CaseJudgement> {
+    pub fn deciding(&self) -> Option<&CaseJudgement>
+        ensures { option_copied result ≡ slice_get self.now.cases.items self.now.worst }
+    {
         self.cases.get(self.worst)
     }
 
@@ -84,6 +88,9 @@ pub fn judged_submission<X: Threads + Sync, C: Clock, E: Write>(
         asked submission.entry.image.now submission.entry.text.now cases.now) }
     ensures done { IfOk result (λ j. j.status ≡ Status.Done → AreRightCases
         asked submission.entry.image.now submission.entry.text.now cases.now) }
+    ensures no_case { IfErr result (λ f. f ≡ JudgeFault.NoCase → cases.now ≡ []) }
+    ensures fault { IfErr result (λ f. IsJudgeFault
+        asked submission.entry.image.now submission.entry.text.now cases.now f) }
 {
     if cases.is_empty() {
         return Err(JudgeFault::NoCase);

@@ -1,6 +1,7 @@
 //! What seeds, and then every schedule, say of a submission.
 
-ghost use Rattle.std.specs.Prelude.{◌≡◌, IfOk, Some, true, false};
+ghost use Rattle.std.specs.Prelude.{◌≡◌, IfOk, IfErr, Some, true, false};
+ghost use Rattle.judgements.specs.Faults.{IsSearchFault};
 ghost use Rattle.judgements.specs.Known.{is_open};
 ghost use Rattle.judgements.specs.Right.{IsRightBySchedules};
 ghost use Rattle.judgements.specs.Shown.{IsLeftOpen, IsShownBy, IsShownWithin, judged_within, limits_of};
@@ -42,6 +43,7 @@ pub(crate) fn judged_thoroughly<X: Threads + Sync, C: Clock, E: Write>(
         (judged_within (Some bounds) asked judged.entry.image.now judged.entry.required.now) j) }
     ensures run { IfOk result (λ j. IsRunFor
         (judged_within (Some bounds) asked judged.entry.image.now judged.entry.required.now) true false j) }
+    ensures fault { IfErr result (λ f. IsSearchFault (Some bounds) f) }
 {
     let sampled = judged_by_seeds(rt, alloc, asked, judged.image, judged.required)?;
     if !is_open(sampled.kind) {
@@ -86,6 +88,7 @@ fn searched_widely<C: Clock, E: Write>(
         → IsLeftOpen (limits_of (Some bounds)) judged.entry.image.now judged.entry.required.now) }
     ensures known { IfOk result (λ s. IsOfSearch
         (limits_of (Some bounds)) judged.entry.image.now judged.entry.required.now s.judgement) }
+    ensures fault { IfErr result (λ f. IsSearchFault (Some bounds) f) }
 {
     let most = bounds.megabytes.unwrap_or(USUAL_MEGABYTES);
     let mut megabytes = most.min(FIRST_MEGABYTES);

@@ -4,6 +4,7 @@ ghost use Rattle.std.specs.Prelude.{◌≡◌, true};
 ghost use Rattle.judgements.specs.Known.{is_right_kind, is_undecided};
 ghost use Rattle.judgements.specs.Severity.{severity_of};
 ghost use Rattle.judgements.specs.Statuses.{status_of_kind};
+ghost use Rattle.judgements.specs.Words.{word_of};
 
 use end_kinds::Status;
 
@@ -72,7 +73,9 @@ impl VerdictKind {
     }
 
     /// The word of the table.
-    pub fn word(self) -> &'static str {
+    pub fn word(self) -> &'static str
+        ensures { result.now ≡ word_of self }
+    {
         match self {
             VerdictKind::NotRead => "not read",
             VerdictKind::SourceFault => "source fault",

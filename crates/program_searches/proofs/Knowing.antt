@@ -19,6 +19,7 @@ use Rattle.space_ends.specs.ScheduleVerdicts.NamedRegisters.{AreNamed}
 use Rattle.space_ends.specs.ScheduleVerdicts.RightSpaces.{IsFollowedForClaims}
 use Rattle.space_ends.specs.ScheduleVerdicts.ShownClaims.{TellsOfClaims}
 use Rattle.program_searches.specs.Bounds.{IsBoundBy}
+use Rattle.program_searches.specs.Kept.{asks_conditions}
 use Rattle.program_searches.specs.Searches.{takes_all, most_worlds, HasNeededWorlds, IsSearched}
 use Rattle.program_searches.specs.declared.bounds.SearchBound.{SearchBound}
 use Rattle.program_searches.specs.declared.bounds.SearchBound.TheVariants as bound
@@ -156,7 +157,7 @@ or_left false b on = cc
 pub all_if_never_busy : (asked : ProgramSearch) → IsSome asked.required.now.never_busy → IsTrue (takes_all asked)
 all_if_never_busy asked some =
     let required = asked.required.now in
-    or_left (asked.is_plain || is_some required.never_busy) (is_some required.never_starved)
+    or_left (asked.is_plain || is_some required.never_busy) (is_some required.never_starved || asks_conditions required)
     (or_right asked.is_plain (is_some required.never_busy) some)
 
 -- whether there is none

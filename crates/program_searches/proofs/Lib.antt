@@ -2,3 +2,4 @@ mod Knowing
 mod Listed
 mod Short
 mod Waiting
+mod AllAreKept

@@ -3,6 +3,7 @@ use Rattle.std.specs.Prelude.{IsTrue, IsSome, IfSome, Option, None, Some, is_som
 use Rattle.std.proofs.Common.{◌≡◌, ℕ, Bool, true, false, List, refl, sym, subst}
 use Rattle.image_file.specs.ImageValue.{ImageValue}
 use Rattle.processor.specs.declared.steps.Step.{Step}
+use Rattle.endless_waits.specs.RunAnswersTypes.Rest.{Rest}
 use Rattle.space_ends.specs.ScheduleSpace.Spaces.{SpaceValue}
 use Rattle.endless_waits.specs.StarvingStreams.Starving.{NobodyWaits}
 use Rattle.endless_waits.specs.Waits.{HasExtent, IsSoOfWaits}
@@ -28,11 +29,11 @@ has_extent asked v b s false true is none = tt
 has_extent asked v b s false false is none = tt
 
 -- what is said of a space is so of the program whose space it is
-pub so_of_program : (image : ImageValue) (begin : List Step) (v : SpaceValue) (w : Option EndlessWaits) → v.image ≡ image
-    → v.begin ≡ begin → IfSome w (IsSoOfWaits v.image v.begin) → IfSome w (IsSoOfWaits image begin)
-so_of_program image begin v w image_is begin_is so =
-    subst (λ (i : ImageValue). IfSome w (IsSoOfWaits i begin)) image_is
-    (subst (λ (ts : List Step). IfSome w (IsSoOfWaits v.image ts)) begin_is so)
+pub so_of_program : (image : ImageValue) (begin : List Step) (rests : List Rest) (v : SpaceValue) (w : Option EndlessWaits) → v.image ≡ image
+    → v.begin ≡ begin → IfSome w (IsSoOfWaits v.image v.begin rests) → IfSome w (IsSoOfWaits image begin rests)
+so_of_program image begin rests v w image_is begin_is so =
+    subst (λ (i : ImageValue). IfSome w (IsSoOfWaits i begin rests)) image_is
+    (subst (λ (ts : List Step). IfSome w (IsSoOfWaits v.image ts rests)) begin_is so)
 
 -- if it is required that nobody can wait, it is said
 pub nobody_said : (asks : Option ℕ) (w : Option EndlessWaits) → IsSome asks
@@ -41,7 +42,7 @@ nobody_said None w some is = cc
 nobody_said (Some k) w some is = is
 
 -- and if that is said, nobody can
-pub nobody_waits : (image : ImageValue) (begin : List Step) (w : Option EndlessWaits)
-    → IfSome w (IsSoOfWaits image begin) → IsTrue (says_nobody w) → NobodyWaits image begin
-nobody_waits image begin None so is = cc
-nobody_waits image begin (Some w) so is = so.nobody is
+pub nobody_waits : (image : ImageValue) (begin : List Step) (rests : List Rest) (w : Option EndlessWaits)
+    → IfSome w (IsSoOfWaits image begin rests) → IsTrue (says_nobody w) → NobodyWaits image begin rests
+nobody_waits image begin rests None so is = cc
+nobody_waits image begin rests (Some w) so is = so.nobody is

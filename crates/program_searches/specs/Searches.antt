@@ -18,16 +18,19 @@ use Rattle.space_ends.specs.Spinning.{spinning_in, AreSpinning}
 use Rattle.space_ends.specs.Shown.{AreShownSo}
 use Rattle.space_ends.specs.FirstBroken.{AreBrokenSo}
 use Rattle.program_searches.specs.Loops.{ListsLoops}
+use Rattle.program_searches.specs.Kept.{asks_conditions, are_kept, SaysWhatIsKept}
 use Rattle.program_searches.specs.Waits.{is_unstarved, SaysWhoWaits}
 use Rattle.program_searches.specs.declared.bounds.SearchBound.{SearchBound}
 use Rattle.program_searches.specs.declared.bounds.SearchBound.TheVariants as bound
 use Rattle.program_searches.specs.declared.explored.Explored.{Explored}
 use Rattle.program_searches.specs.declared.searches.ProgramSearch.{ProgramSearch}
 
--- whether all worlds are looked for: where that is asked for, or no stream is to loop alone, or none to wait forever
+-- whether all worlds are looked for: where that is asked for, or no stream is to loop alone, or none to wait forever, or a
+-- condition on runs is required
 abbrev pub takes_all : ProgramSearch → Bool
 takes_all asked =
-    asked.is_plain || is_some asked.required.now.never_busy || is_some asked.required.now.never_starved
+    asked.is_plain || is_some asked.required.now.never_busy
+    || (is_some asked.required.now.never_starved || asks_conditions asked.required.now)
 
 -- how many worlds are looked for at most, one at least
 abbrev pub most_worlds : ProgramSearch → ℕ
@@ -66,14 +69,15 @@ pub record IsSearched (asked : ProgramSearch) (v : SpaceValue) (ended : Option S
   pub missing : ended ≡ Some bound.States → IsTrue (takes_all asked) → ¬ (IsComplete v)
 
 -- It is right exactly if it is complete, something is required, the program keeps the rules, all that is required is so of
--- every schedule, and it is said that nobody can wait forever, if that is required.
+-- every schedule, it is said that nobody can wait forever, if that is required, and that all runs keep each condition.
 abbrev pub SaysWhetherRight : ImageValue → ProgramSearch → Explored → Type 0
 SaysWhetherRight image asked e =
     IsTrue e.is_right
     ↔ (IsTrue e.is_complete × IsJudged image asked.required.now
     × IsRightThroughout image asked.begin.now asked.required.now.ends.items asked.required.now.claims.items
     (is_some asked.required.now.never_busy)
-    × IsTrue (is_unstarved asked.required.now e.waits))
+    × IsTrue (is_unstarved asked.required.now e.waits)
+    × IsTrue (are_kept asked.required.now e.kept))
 
 -- What a search among the schedules of a program came to.
 pub record IsExplored (i : ImageValue) (asked : ProgramSearch) (e : Explored) : Type 0 where
@@ -112,5 +116,7 @@ pub record IsExplored (i : ImageValue) (asked : ProgramSearch) (e : Explored) : 
   pub shown : e.unshown ≡ None → AreShown e.space.image e.space.begin asked.required.now.claims.items
   -- What is said of who can wait forever is so.
   pub waits : SaysWhoWaits i asked e
+  -- What is said of conditions on runs is so.
+  pub conditions : SaysWhatIsKept i asked e
   -- It is right exactly if all that is required is so.
   pub right : SaysWhetherRight i asked e

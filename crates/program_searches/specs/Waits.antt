@@ -59,6 +59,6 @@ pub record SaysWhoWaits (i : ImageValue) (asked : ProgramSearch) (e : Explored) 
   -- If it is not answered, that is by how far the search went.
   pub why : IfSome e.waits (λ w. why_not_in w ≡ why_not (extent_of e) (count e.space))
   -- What is said is so of the program.
-  pub so : IfSome e.waits (IsSoOfWaits i asked.begin.now)
+  pub so : IfSome e.waits (IsSoOfWaits i asked.begin.now asked.required.now.rests.items)
   -- If the search is right, and it is required that nobody can wait forever, nobody can.
-  pub right : IsTrue e.is_right → IsSome asked.required.now.never_starved → NobodyWaits i asked.begin.now
+  pub right : IsTrue e.is_right → IsSome asked.required.now.never_starved → NobodyWaits i asked.begin.now asked.required.now.rests.items

@@ -7,10 +7,11 @@ ghost use Rattle.program_searches.specs.Statuses.{status_of_bound, unkept_in, st
 ghost use Rattle.program_searches.specs.Waits.{extent_of};
 
 use crate::bounds::SearchBound;
+use crate::kept::unkept_conditions;
 use crate::unkept::{Unkept, unkept_waits};
 use crate::waits::extent_by;
 use end_kinds::{EndKind, Status};
-use endless_waits::{EndlessWaits, SearchExtent};
+use endless_waits::{EndlessWaits, KeptConditions, SearchExtent};
 use space_ends::space::Space;
 use space_ends::{SpaceEnd, SpaceEndKind};
 
@@ -33,9 +34,12 @@ pub struct Explored<'i> {
     pub unshown: Option<usize>,
     /// Who can wait forever, where it is required that nobody can.
     pub waits: Option<EndlessWaits>,
+    /// Whether all runs keep the conditions that are required, where some are.
+    pub kept: Option<KeptConditions>,
     /// Whether they are all, something is required, the program keeps the rules, every schedule is right, its end and each
     /// world on its way, each claim that has to hold of one world at least does, no stream loops alone where that is
-    /// required, and nobody can wait forever where that is (PROMISES.md, "Every schedule is right").
+    /// required, nobody can wait forever where that is, and all runs keep each condition (PROMISES.md, "Every schedule is
+    /// right").
     pub is_right: bool,
 }
 
@@ -89,6 +93,7 @@ impl Explored<'_> {
             rule: self.broken_rule,
             unshown: if self.is_complete { self.unshown } else { None },
             waits: unkept_waits(&self.waits),
+            conditions: unkept_conditions(&self.kept),
             undecided: None,
         }
     }

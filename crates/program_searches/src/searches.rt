@@ -1,13 +1,14 @@
 //! What is looked for among the schedules of a program, and what the search comes to.
 //!
-//! **What is kept.** `Explored` owns the space that was found, the ends of it, and six answers: whether the search is
-//! complete, what ended it, the first rule that is broken, the first claim that none shows, who can wait forever, and
-//! whether all is right. They are made once, in `explore_on`, of values alone; whoever prints them decides nothing more.
+//! **What is kept.** `Explored` owns the space that was found, the ends of it, and seven answers: whether the search is
+//! complete, what ended it, the first rule that is broken, the first claim that none shows, who can wait forever, whether all
+//! runs keep the conditions, and whether all is right. They are made once, in `explore_on`, of values alone; whoever prints
+//! them decides nothing more.
 //!
-//! **Two searches.** All worlds are looked for if that is asked for, and if no stream is to loop alone, or to wait forever: a
-//! space of fewer worlds says nothing of that. Otherwise `explore_ends` looks for what is needed: it names each register at which an
-//! expectation looks, and each place and word at which a claim looks. So ends and claims are judged by few worlds, and the
-//! verdict is that of every schedule.
+//! **Two searches.** All worlds are looked for if that is asked for, and if no stream is to loop alone, or to wait forever, or
+//! a condition on runs is required: a space of fewer worlds says nothing of that. Otherwise `explore_ends` looks for what is
+//! needed: it names each register at which an expectation looks, and each place and word at which a claim looks. So ends and
+//! claims are judged by few worlds, and the verdict is that of every schedule.
 //!
 //! **Which invariant.** `IsSearched` ties the space to what ended the search, not to a flag beside it. `is_complete` is
 //! made of the bound, so that the two can't disagree. The watcher keeps which of its own two bounds it has ended a search
@@ -42,13 +43,16 @@ ghost use Rattle.space_ends.specs.ScheduleVerdicts.ShownClaims.{AreShown, IsRigh
 ghost use Rattle.program_searches.specs.Bounds.{IsOfClock};
 ghost use Rattle.endless_waits.specs.StarvingStreams.Starving.{NobodyWaits};
 ghost use Rattle.program_searches.specs.Searches.{most_worlds, takes_all, SaysWhetherRight, IsExplored};
+ghost use Rattle.endless_waits.specs.Kept.{AllKept};
+ghost use Rattle.program_searches.specs.Kept.{are_kept};
 ghost use Rattle.program_searches.specs.Waits.{is_unstarved};
 
 use crate::explored::Explored;
+use crate::kept::{are_kept, kept_in};
 use crate::spaces::space_in_time;
 use crate::waits::{extent_by, is_unstarved, waits_in};
 use crate::watching::{Console, WatchedSearch, Watcher};
-use endless_waits::EndlessWaits;
+use endless_waits::{EndlessWaits, KeptConditions};
 use expectation_files::Requirements;
 use image_file::Image;
 use image_machines::by_least_room;
@@ -115,13 +119,15 @@ impl ProgramSearch<'_> {
         }
     }
 
-    /// Whether all worlds are looked for: where it is asked for, and where no stream is to loop alone, or to wait forever.
+    /// Whether all worlds are looked for: where it is asked for, and where no stream is to loop alone, or to wait forever, or
+    /// a condition on runs is required.
     pub(crate) fn takes_all(&self) -> bool
         ensures { result ≡ takes_all self.now }
     {
         self.is_plain
             || self.required.never_busy().is_some()
-            || self.required.never_starved().is_some()
+            || (self.required.never_starved().is_some()
+                || !self.required.run_conditions().is_empty())
     }
 }
 
@@ -158,7 +164,10 @@ pub fn explore_program<'i, C: Clock, E: Write>(
 ) -> Result<Explored<'i>, SearchFault>
     ensures right { IfOk result (λ e. SaysWhetherRight image.entry.now asked.now e) }
     ensures unstarved { IfOk result (λ e. IsTrue e.is_right → IsSome asked.now.required.now.never_starved
-        → NobodyWaits image.entry.now asked.now.begin.now) }
+        → NobodyWaits image.entry.now asked.now.begin.now asked.now.required.now.rests.items) }
+    ensures kept { IfOk result (λ e. IsTrue e.is_right
+        → AllKept image.entry.now asked.now.begin.now asked.now.required.now.rests.items
+        asked.now.required.now.run_conditions.items) }
     ensures explored { IfOk result (λ e. IsExplored image.entry.now asked.now e) }
     ensures clock { IfErr result (λ f. IsOfClock f → IsSome asked.now.bounds.seconds) }
 {
@@ -211,7 +220,8 @@ fn explore_on<'i, C: Clock, E: Write, const S: usize>(
     let is_of_all_worlds = asked.takes_all();
     let extent = extent_by(is_of_all_worlds, is_complete);
     let waits = waits_in(alloc, required, &space, extent)?;
-    let is_right = unless_starved(are_right, required, &waits);
+    let kept = kept_in(alloc, required, &space, extent)?;
+    let is_right = unless_endless(are_right, required, &waits, &kept);
     Ok(Explored {
         space,
         is_complete,
@@ -221,15 +231,22 @@ fn explore_on<'i, C: Clock, E: Write, const S: usize>(
         broken_rule: first_broken(image, required.rules()),
         unshown,
         waits,
+        kept,
         is_right,
     })
 }
 
-/// Whether all is right of what is, where nobody can wait forever if that is required.
-fn unless_starved(are_right: bool, required: &Requirements, waits: &Option<EndlessWaits>) -> bool
-    ensures { IsTrue result ↔ (IsTrue are_right × IsTrue (is_unstarved required.now waits.now)) }
+/// Whether all is right of what is, where nobody can wait forever if that is required, and all runs keep each condition.
+fn unless_endless(
+    are_right: bool,
+    required: &Requirements,
+    waits: &Option<EndlessWaits>,
+    kept: &Option<KeptConditions>,
+) -> bool
+    ensures { IsTrue result ↔ (IsTrue are_right × IsTrue (is_unstarved required.now waits.now)
+        × IsTrue (are_kept required.now kept.now)) }
 {
-    are_right && is_unstarved(required, waits)
+    are_right && is_unstarved(required, waits) && are_kept(required, kept)
 }
 
 /// The first of the claims, counted from 0, that have to hold of one world at least and that no world of a space shows, nor

@@ -1,7 +1,7 @@
 //! What is required of a program as a whole, and is not so.
 
 ghost use Rattle.std.specs.Prelude.{◌≡◌};
-ghost use Rattle.program_searches.specs.Statuses.{is_starved, status_of_unkept};
+ghost use Rattle.program_searches.specs.Statuses.{is_starved, is_evaded, is_broken, is_open, status_of_unkept};
 ghost use Rattle.program_searches.specs.Waits.{first_waiting, unkept_waits};
 
 use end_kinds::Status;
@@ -22,6 +22,19 @@ pub enum UnkeptWaits {
     RunsAlone,
 }
 
+/// Why it is not known that all runs keep each condition.
+#[derive(Clone, Copy, Debug)]
+pub enum UnkeptConditions {
+    /// Not the one of this place: the first one that a run evades.
+    Evaded(usize),
+    /// Of the one of this place it was not decided, the first one.
+    Undecided(usize),
+    /// It was not asked, for this reason.
+    Unanswered(Unanswered),
+    /// Runs were looked at alone, which do not decide it.
+    RunsAlone,
+}
+
 /// What is required of a program as a whole, and is not so.
 #[derive(Clone, Copy, Debug)]
 pub struct Unkept {
@@ -31,6 +44,8 @@ pub struct Unkept {
     pub unshown: Option<usize>,
     /// Why it is not known that nobody can wait forever, where that is required.
     pub waits: Option<UnkeptWaits>,
+    /// Why it is not known that all runs keep each condition, where some is required.
+    pub conditions: Option<UnkeptConditions>,
     /// The number of the line `never busy`, where runs were looked at alone, which do not decide it.
     pub undecided: Option<usize>,
 }
@@ -41,12 +56,45 @@ impl Unkept {
     pub fn status(self, is_of_every: bool) -> Status
         ensures { result ≡ status_of_unkept self is_of_every }
     {
-        if self.rule.is_some() || (is_of_every && self.unshown.is_some()) || self.is_starved() {
+        if self.is_broken(is_of_every) {
             Status::Unexpected
-        } else if self.unshown.is_some() || self.undecided.is_some() || self.waits.is_some() {
+        } else if self.is_open() {
             Status::OutOfSteps
         } else {
             Status::Done
+        }
+    }
+
+    /// Whether something of it is known not to be so, by every schedule or by some runs.
+    fn is_broken(self, is_of_every: bool) -> bool
+        ensures { result ≡ is_broken self is_of_every }
+    {
+        self.rule.is_some()
+            || (is_of_every && self.unshown.is_some())
+            || (self.is_starved() || self.is_evaded())
+    }
+
+    /// Whether something of it is not known to be so.
+    fn is_open(self) -> bool
+        ensures { result ≡ is_open self }
+    {
+        self.unshown.is_some()
+            || self.undecided.is_some()
+            || (self.waits.is_some() || self.conditions.is_some())
+    }
+
+    /// Whether a run is shown that evades a condition.
+    fn is_evaded(self) -> bool
+        ensures { result ≡ is_evaded self.conditions }
+    {
+        match self.conditions {
+            Some(UnkeptConditions::Evaded(_)) => true,
+            Some(
+                UnkeptConditions::Undecided(_)
+                | UnkeptConditions::Unanswered(_)
+                | UnkeptConditions::RunsAlone,
+            )
+            | None => false,
         }
     }
 

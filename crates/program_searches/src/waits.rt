@@ -10,21 +10,27 @@ ghost use Rattle.program_searches.specs.Waits.{extent_by, extent_of, is_unstarve
 ghost use Rattle.program_searches.specs.declared.searches.ProgramSearch.{ProgramSearch};
 
 use crate::explored::Explored;
+use endless_waits::answered::Rest;
 use endless_waits::{EndlessWaits, SearchExtent, endless_waits};
 use expectation_files::Requirements;
 use space_ends::space::Space;
 use std::alloc::{AllocError, Global};
 
-/// Who can wait forever in a program of which this search was made, whatever is required of it. That is asked exactly if the
+/// Who can wait forever in a program of which this search was made, where these streams may rest, whatever is required of it.
+/// That is asked exactly if the
 /// search looked for all states, has all, and they are no more than 100,000.
-pub fn endless_waits_of(alloc: Global, found: &Explored<'_>) -> Result<EndlessWaits, AllocError>
+pub fn endless_waits_of(
+    alloc: Global,
+    found: &Explored<'_>,
+    rests: &[Rest],
+) -> Result<EndlessWaits, AllocError>
     ensures asked { IfOk result (λ w. why_not_in w ≡ why_not (extent_of found.now) (count found.now.space)) }
     ensures tells { IfOk result (λ w. (image : ImageValue) (asked : ProgramSearch) → IsExplored image asked found.now
-        → TellsWhoWaits image asked.begin.now w) }
+        → TellsWhoWaits image asked.begin.now rests.now w) }
     ensures nobody { IfOk result (λ w. (image : ImageValue) (asked : ProgramSearch) → IsExplored image asked found.now
-        → IsTrue (is_nobody w) → NobodyWaits image asked.begin.now) }
+        → IsTrue (is_nobody w) → NobodyWaits image asked.begin.now rests.now) }
 {
-    let waits = endless_waits(alloc, &found.space, found.extent())?;
+    let waits = endless_waits(alloc, &found.space, found.extent(), rests)?;
     Ok(waits)
 }
 
@@ -38,12 +44,12 @@ pub(crate) fn waits_in(
     ensures asked { IfOk result (λ found. is_some found ≡ is_some required.now.never_starved) }
     ensures why { IfOk result (λ found. IfSome found (λ w. why_not_in w ≡ why_not extent (count space.now))) }
     ensures so { IfOk result (λ found. HasExtent extent space.now
-        → IfSome found (IsSoOfWaits space.now.image space.now.begin)) }
+        → IfSome found (IsSoOfWaits space.now.image space.now.begin required.now.rests.items)) }
 {
     if required.never_starved().is_none() {
         return Ok(None);
     }
-    Ok(Some(endless_waits(alloc, space, extent)?))
+    Ok(Some(endless_waits(alloc, space, extent, required.rests())?))
 }
 
 /// How far a search went that looked for all worlds or not, and is complete or not.

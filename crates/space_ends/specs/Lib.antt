@@ -7,6 +7,7 @@ pub mod Spinning
 pub mod Loops
 pub mod FirstBroken
 pub mod Judging
+pub mod Words
 pub mod Shown
 -- Of crates below, passed on to callers.
 pub mod EndStates

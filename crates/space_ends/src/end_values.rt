@@ -1,8 +1,9 @@
 //! What is known of the ends of all schedules.
 
-ghost use Rattle.std.specs.Prelude.{◌≡◌, IsTrue};
+ghost use Rattle.std.specs.Prelude.{◌≡◌, IsTrue, IfOk};
 ghost use Rattle.space_ends.specs.Judging.{is_end_kind, judgement_of, expected_end, end_status};
 ghost use Rattle.space_ends.specs.Spinning.{are_spinning};
+ghost use Rattle.space_ends.specs.Words.{name_of, json_name_of, worlds_in, can_run, running_in};
 
 use crate::going::{Going, GoingStream};
 use end_kinds::{EndKind, Status};
@@ -26,7 +27,9 @@ pub enum SpaceEndKind {
 
 impl SpaceEndKind {
     /// Its name in tables.
-    pub fn name(self) -> &'static str {
+    pub fn name(self) -> &'static str
+        ensures { result.now ≡ name_of self }
+    {
         match self {
             SpaceEndKind::End(kind) => kind.name(),
             SpaceEndKind::Broken { .. } | SpaceEndKind::Busy => "broken",
@@ -34,7 +37,9 @@ impl SpaceEndKind {
     }
 
     /// Its name in JSON.
-    pub fn json_name(self) -> &'static str {
+    pub fn json_name(self) -> &'static str
+        ensures { result.now ≡ json_name_of self }
+    {
         match self {
             SpaceEndKind::End(kind) => kind.json_name(),
             SpaceEndKind::Broken { .. } | SpaceEndKind::Busy => "broken",
@@ -151,18 +156,32 @@ impl SpaceEnd {
     }
 
     /// How many worlds it has.
-    pub fn worlds(&self) -> usize {
+    pub fn worlds(&self) -> usize
+        ensures { result ≡ worlds_in self.now }
+    {
         self.places.len().saturating_add(self.before)
     }
 
     /// The streams that can go on in some world of a set that spins.
-    pub fn running(&self, alloc: Global) -> Result<Vec<Step>, AllocError> {
+    pub fn running(&self, alloc: Global) -> Result<Vec<Step>, AllocError>
+        ensures { IfOk result (λ v. v.items ≡ running_in self.now.going.items) }
+    {
         let mut running = Vec::new(alloc);
-        for stream in self.going.iter() {
-            if stream.going == Going::Runs {
+        for stream in &self.going {
+            if can_run(stream.going) {
                 running.push(stream.stream)?;
             }
         }
         Ok(running)
+    }
+}
+
+/// Whether a stream can go on in some world.
+fn can_run(going: Going) -> bool
+    ensures { result ≡ can_run going }
+{
+    match going {
+        Going::Runs => true,
+        Going::WaitsFor(_) | Going::Waits => false,
     }
 }

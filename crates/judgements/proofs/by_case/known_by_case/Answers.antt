@@ -4,8 +4,8 @@ use Rattle.case_cells.specs.NamedWords.{name_lacking}
 use Rattle.judgements.proofs.ReadCases.{read_case, without_name}
 use Rattle.judgements.proofs.by_case.known_by_case.Goals as goal
 
-pub returns-in-Some : goal.returns-in-Some
-returns-in-Some g c =
+pub returns-in-Some-clause-known : goal.returns-in-Some-clause-known
+returns-in-Some-clause-known g c =
     let needed = c.args.asked.needs_names in
     let text = c.args.submission.text.now in
     let lacks : name_lacking needed c.args.case.now.given.items text ≡ Some c.in-Some.name =
@@ -15,8 +15,8 @@ returns-in-Some g c =
     c.judged_without_name.result lacks c.judged_without_name.ensures.reason c.judged_without_name.ensures.kind
     c.judged_without_name.ensures.known
 
-pub returns-in-Ok : goal.returns-in-Ok
-returns-in-Ok g c =
+pub returns-in-Ok-clause-known : goal.returns-in-Ok-clause-known
+returns-in-Ok-clause-known g c =
     let own = c.args.submission.image.now in
     read_case c.args.asked own c.args.submission.text.now c.args.case.now c.image_or-image.result.now c.in-Ok.required
     c.judged_by_lines.result (c.image_or-image.ensures ∙ ap (λ o. unwrap_or o own) c.in_ok-given.ensures)

@@ -6,6 +6,7 @@ use Rattle.seed_outcomes.specs.SpaceEndsTypes.SpaceEnd.{SpaceEnd}
 use Rattle.judgements.specs.Flaws.{ShowNothing, IsWorstFlaw}
 use Rattle.judgements.specs.Shown.{JudgedAs, IsFound, IsLeftOpen}
 use Rattle.judgements.proofs.Shown.{is_complete, is_unshown}
+use Rattle.judgements.proofs.WhatEvades.{evaded}
 use Rattle.judgements.proofs.WhoStarves.{starved}
 use Rattle.judgements.proofs.by_schedules.decided_by.Goals as goal
 
@@ -24,6 +25,7 @@ left_open c p search = record {
   flawless = subst ShowNothing c.deref.ensures.value c.in_default.ensures;
   shown = ap (λ (u : Unkept). u.unshown) (sym c.unkept.ensures) ∙ c.in_default-unshown.is;
   unstarved = at_none _ c.in_ok-starved.starved c.in_default-starved.is c.in_ok-starved.ensures.none;
+  unevaded = at_none _ c.in_ok-evaded.evaded c.in_default-evaded.is c.in_ok-evaded.ensures.none;
   not_right = c.if-found.false;
 }
 
@@ -61,6 +63,15 @@ returns-in-Some-starved-clause-shown c = λ p search.
 pub returns-in-Some-starved-clause-decided : goal.returns-in-Some-starved-clause-decided
 returns-in-Some-starved-clause-decided c =
     at_some _ c.in_ok-starved.starved c.in-Some-starved.starving c.in-Some-starved.is c.in_ok-starved.ensures.first
+
+pub returns-in-Some-evaded-clause-shown : goal.returns-in-Some-evaded-clause-shown
+returns-in-Some-evaded-clause-shown c = λ p search.
+    evaded p.limits p.image p.required c.args.found.now c.in-Some-evaded.evasion search
+    (at_some _ c.in_ok-evaded.evaded c.in-Some-evaded.evasion c.in-Some-evaded.is c.in_ok-evaded.ensures.first)
+
+pub returns-in-Some-evaded-clause-decided : goal.returns-in-Some-evaded-clause-decided
+returns-in-Some-evaded-clause-decided c =
+    at_some _ c.in_ok-evaded.evaded c.in-Some-evaded.evasion c.in-Some-evaded.is c.in_ok-evaded.ensures.first
 
 pub returns-clause-shown : goal.returns-clause-shown
 returns-clause-shown c = λ p search. inr (refl, left_open c p search)

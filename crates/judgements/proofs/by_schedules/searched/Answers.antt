@@ -5,6 +5,7 @@ use Rattle.processor.specs.declared.steps.Step.{Step}
 use Rattle.lab_requests.specs.declared.requests.Bounds.{Bounds}
 use Rattle.expectation_files.specs.declared.requirements.Requirements.{Requirements}
 use Rattle.program_searches.specs.Searches.{IsExplored}
+use Rattle.program_searches.specs.RunAnswers.Kept.{AllKept}
 use Rattle.program_searches.specs.StarvingStreams.Starving.{NobodyWaits}
 use Rattle.program_searches.specs.declared.explored.Explored.{Explored}
 use Rattle.program_searches.specs.declared.searches.ProgramSearch.{ProgramSearch}
@@ -38,9 +39,13 @@ returns-clause-right g c = λ kind.
           (subst (λ (ts : List Step). IsRightThroughout image ts search.required.now.ends.items
           search.required.now.claims.items (is_some search.required.now.never_busy)) begin so.2);
       unstarved =
-          subst (λ (r : Requirements). IsSome r.never_starved → NobodyWaits image []) required
-          (subst (λ (ts : List Step). IsSome search.required.now.never_starved → NobodyWaits image ts) begin
+          subst (λ (r : Requirements). IsSome r.never_starved → NobodyWaits image [] r.rests.items) required
+          (subst (λ (ts : List Step). IsSome search.required.now.never_starved → NobodyWaits image ts search.required.now.rests.items) begin
           (c.in_ok-found.ensures.unstarved is));
+      kept =
+          subst (λ (r : Requirements). AllKept image [] r.rests.items r.run_conditions.items) required
+          (subst (λ (ts : List Step). AllKept image ts search.required.now.rests.items search.required.now.run_conditions.items) begin
+          (c.in_ok-found.ensures.kept is));
     }
 
 pub returns-clause-shown : goal.returns-clause-shown

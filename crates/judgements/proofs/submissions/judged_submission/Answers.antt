@@ -4,6 +4,7 @@ use Rattle.end_kinds.specs.declared.statuses.Status.TheVariants as status
 use Rattle.program_searches.specs.Statuses.{worst}
 use Rattle.judgements.specs.Statuses.{statuses_of}
 use Rattle.judgements.specs.Verdicts.{AreCasesJudged, IsWorst, IsKindAt}
+use Rattle.judgements.proofs.CaseFaults.{fault_at_case}
 use Rattle.judgements.proofs.Pushed.{one_more}
 use Rattle.judgements.proofs.Right.{all_right, all_done}
 use Rattle.judgements.proofs.submissions.judged_submission.Goals as goal
@@ -16,7 +17,7 @@ loop-place-preserved g c =
     let before = c.loop-place.invariant in
     let there = slice_get_read cases (length cases) place case refl c.loop-place-test.true c.index-cases-place.is in
     rw c.in_ok-push-in-Ok.ensures.items (one_more c.args.asked c.args.submission.image.now c.args.submission.text.now
-    cases c.loop-place.judged.items place case c.in-Ok.judgement before.0 before.1 there c.in-Ok.ensures)
+    cases c.loop-place.judged.items place case c.in-Ok.judgement before.0 before.1 there c.in-Ok.ensures.known)
 
 pub kind_at-kind-requires : goal.kind_at-kind-requires
 kind_at-kind-requires g c =
@@ -52,4 +53,15 @@ returns g c =
       status = is;
       right = λ right. all_right asked image text cases js place judged most c.kind_at-kind.result kind right;
       done = λ done. all_done asked image text cases js place judged most c.status_of-status.result is done;
+      no_case = tt {0};
+      fault = tt {0};
     }
+
+pub returns-in-Err-clause-fault : goal.returns-in-Err-clause-fault
+returns-in-Err-clause-fault g c =
+    let cases = c.args.cases.now in
+    let place = c.loop-place.place in
+    let case = c.index-cases-place.result in
+    fault_at_case c.args.asked c.args.submission.image.now c.args.submission.text.now cases place case c.in-Err.fault
+    c.of_case.result (slice_get_read cases (length cases) place case refl c.loop-place-test.true c.index-cases-place.is)
+    c.in-Err.ensures.fault c.of_case.ensures

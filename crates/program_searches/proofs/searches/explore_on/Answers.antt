@@ -16,6 +16,8 @@ use Rattle.endless_waits.specs.Waits.{HasExtent, why_not, why_not_in}
 use Rattle.endless_waits.specs.declared.extents.SearchExtent.{SearchExtent}
 use Rattle.program_searches.proofs.Knowing.{known, taken, tells, all_ends, all_if_never_busy, none_if, if_none, none_found}
 use Rattle.program_searches.proofs.Listed.{one_listed, none_listed, either_way, if_not_found, if_none_listed}
+use Rattle.endless_waits.specs.Kept.{why_not_kept}
+use Rattle.program_searches.proofs.AllAreKept.{kept_of_program, all_kept}
 use Rattle.program_searches.proofs.Waiting.{has_extent, so_of_program, nobody_said, nobody_waits}
 use Rattle.program_searches.proofs.searches.explore_on.Goals as goal
 
@@ -33,13 +35,15 @@ returns g c =
     let begin = c.in_ok-space.ensures.begin in
     let none : IsTrue c.is_none-is_complete.result → b ≡ None = none_if b _ c.is_none-is_complete.ensures in
     let found = c.in_ok-are_right.ensures in
-    let unless = c.unless_starved-is_right.ensures in
+    let unless = c.unless_endless-is_right.ensures in
+    let kept = c.in_ok-kept.kept in
     let waits = c.in_ok-waits.waits in
     let has =
     subst (λ (x : SearchExtent). HasExtent x v) (sym c.extent_by-extent.ensures)
     (has_extent asked v b s c.takes_all-is_of_all_worlds.result c.is_none-is_complete.result
     c.takes_all-is_of_all_worlds.ensures none) in
-    let so = so_of_program c.args.image.now asked.begin.now v waits image begin (c.in_ok-waits.ensures.so has) in
+    let so = so_of_program c.args.image.now asked.begin.now required.rests.items v waits image begin (c.in_ok-waits.ensures.so has) in
+    let conditions = kept_of_program c.args.image.now asked.begin.now required.rests.items v required.run_conditions.items kept image begin (c.in_ok-kept.ensures.so has) in
     let judged = c.judges-is_judged.ensures in
     let busy = c.in_ok-busy.ensures in
     let loops = busy_in c.in_ok-ends.ends.items in
@@ -93,8 +97,16 @@ returns g c =
             c.in_ok-waits.ensures.why;
         so = so;
         right = λ yes some.
-            nobody_waits c.args.image.now asked.begin.now waits so
+            nobody_waits c.args.image.now asked.begin.now required.rests.items waits so
             (nobody_said required.never_starved waits some (unless.0 yes).1);
+      };
+      conditions = record {
+        required = c.in_ok-kept.ensures.asked;
+        why =
+            subst (λ (x : SearchExtent). IfSome kept (λ l. why_not_kept l ≡ why_not x (count v))) c.extent_by-extent.ensures
+            c.in_ok-kept.ensures.why;
+        so = conditions;
+        right = λ yes. all_kept c.args.image.now asked.begin.now required.rests.items required.run_conditions.items kept conditions (unless.0 yes).2;
       };
       right = (
         λ said.
@@ -117,6 +129,7 @@ returns g c =
               subst (λ i. IsRightThroughout i asked.begin.now expected claims alone) image
                   (subst (λ ts. IsRightThroughout v.image ts expected claims alone) begin here),
               (unless.0 said).1,
+              (unless.0 said).2,
             ),
         λ all.
             let right : IsRightThroughout v.image v.begin expected claims alone =
@@ -129,6 +142,7 @@ returns g c =
             unless.1 (
               found.only (judged.1 (all.0, all.1, no_claim, no_stream)) (taken asked v b s (none all.0)) right,
               all.3,
+              all.4,
             ),
       );
     }

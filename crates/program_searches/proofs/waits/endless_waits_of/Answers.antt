@@ -21,14 +21,16 @@ extent_is image asked e x explored is =
 pub returns-clause-tells : goal.returns-clause-tells
 returns-clause-tells c = λ image asked explored.
     let e = c.args.found.now in
+    let rests = c.args.rests.now in
     let w = c.in_ok-waits.waits in
-    subst (λ (ts : List Step). TellsWhoWaits image ts w) explored.begin
-    (subst (λ (i : ImageValue). TellsWhoWaits i e.space.begin w) explored.image
+    subst (λ (ts : List Step). TellsWhoWaits image ts rests w) explored.begin
+    (subst (λ (i : ImageValue). TellsWhoWaits i e.space.begin rests w) explored.image
     (c.in_ok-waits.ensures.tells (extent_is image asked e c.extent.result explored c.extent.ensures)))
 
 pub returns-clause-nobody : goal.returns-clause-nobody
 returns-clause-nobody c = λ image asked explored is.
     let e = c.args.found.now in
-    subst (λ (ts : List Step). NobodyWaits image ts) explored.begin
-    (subst (λ (i : ImageValue). NobodyWaits i e.space.begin) explored.image
+    let rests = c.args.rests.now in
+    subst (λ (ts : List Step). NobodyWaits image ts rests) explored.begin
+    (subst (λ (i : ImageValue). NobodyWaits i e.space.begin rests) explored.image
     (c.in_ok-waits.ensures.nobody (extent_is image asked e c.extent.result explored c.extent.ensures) is))
