@@ -42,7 +42,9 @@ impl<'a> ShownMistake<'a> {
             | Reason::NoRun { .. }
             | Reason::NoRunCan
             | Reason::Starved(_)
+            | Reason::Evaded(_)
             | Reason::OpenWaits
+            | Reason::OpenConditions
             | Reason::Rule(_)
             | Reason::Work(_)
             | Reason::Absent { .. }
@@ -107,9 +109,12 @@ fn push_missed(seen: &mut Vec<Observation>, shown: ShownMistake<'_>) -> Result<(
             Some(expectation) => push_words_of(seen, shown.image, *expectation),
             None => Ok(()),
         },
-        Some(MissedLine::Claim(_) | MissedLine::Busy | MissedLine::Starved) => {
-            Ok(seen.push(Observation::of(ObservationKind::Claim))?)
-        }
+        Some(
+            MissedLine::Claim(_)
+            | MissedLine::Busy
+            | MissedLine::Starved
+            | MissedLine::Condition(_),
+        ) => Ok(seen.push(Observation::of(ObservationKind::Claim))?),
         Some(MissedLine::Rule(_)) => Ok(seen.push(Observation::of(ObservationKind::Rule))?),
         Some(MissedLine::Work(_)) => Ok(seen.push(Observation::of(ObservationKind::Missed))?),
         Some(MissedLine::Absent { .. }) => {

@@ -255,7 +255,7 @@ Writes a page on which the reader is the scheduler, for a browser: at each step 
 chooses which stream goes on, forwards and back. The page shows which ends can still come, and
 after which step the right one can no longer be reached. It is one file, which needs no network,
 and has every state that a schedule of the program can reach, up to 100000. With --expect ends are
-right or wrong. Each end is a goal.
+right or wrong. Up to eight ends are goals, and --goal can name any.
 
 If a program has more states, let its loops repeat less often, or give a beginning by --from.
 

@@ -130,7 +130,11 @@ pub(crate) fn put_count(out: &mut TextWriter, done: usize, all: usize) {
     out.put_number(done as u64);
     out.put(" of ");
     out.put_number(all as u64);
-    out.put(" are done.\n");
+    out.put(if done == 1 {
+        " is done.\n"
+    } else {
+        " are done.\n"
+    });
     if done == all {
         out.put(ALL_DONE);
     }

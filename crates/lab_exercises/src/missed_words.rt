@@ -5,6 +5,7 @@ use crate::listing::put_reason;
 use crate::shortfall_words::put_shortfall;
 use exercise_advice::judges::{CaseJudgement, MissedLine, Reason, VerdictKind};
 use exercise_advice::rules::ProgramRule;
+use exercise_advice::searches::endless::answered::RunEnd;
 use exercise_advice::{Shortfall, ShownMistake, shortfall_of};
 use exercise_files::parts::texts::ProgramNames;
 use plain_text::{TextWriter, plural};
@@ -12,8 +13,9 @@ use std::alloc::{AllocError, Global};
 use submission_rows::reports::{GradeRow, reason_of};
 use submission_rows::{DecidedByCase, JudgedAlone};
 
-/// Adds what is said of a program that was judged, after the name of its file: the line that decides in words, and what shows it
-/// on a line of its own. Without such words it is what `grade` says; of a deadlock who waits, and no line that its end misses.
+/// Adds what is said of a program that was judged, after the name of its file: the line that decides in words, and what
+/// shows it on a line of its own. Without such words it is what `grade` says; of a deadlock who waits, and no line that
+/// its end misses.
 pub(crate) fn put_verdict_words(
     alloc: Global,
     out: &mut TextWriter,
@@ -103,6 +105,11 @@ fn put_missed_line(
         }
         Some(MissedLine::Busy) => put_busy(out, &case.reason),
         Some(MissedLine::Starved) => put_starved(out, &case.reason),
+        Some(MissedLine::Condition(place)) => {
+            if let Some(line) = decided.required.condition_lines().get(place) {
+                put_condition(out, &line.words, &case.reason);
+            }
+        }
         Some(MissedLine::Rule(place)) => put_rule_at(out, decided, place),
         Some(MissedLine::Work(_) | MissedLine::Absent { .. }) | None => {}
     }
@@ -174,6 +181,20 @@ fn put_starved(out: &mut TextWriter, reason: &Reason) {
     if let Reason::Starved(_) = reason {
         out.put("after this run a stream can wait forever, and none ever should: never starved");
     }
+}
+
+/// Adds that a stream may never come to where it should, or is overtaken too often, by the line that says so, where a search
+/// shows it.
+fn put_condition(out: &mut TextWriter, line: &str, reason: &Reason) {
+    let Reason::Evaded(shown) = reason else {
+        return;
+    };
+    out.put(match &shown.run.end {
+        RunEnd::Repeats(_) | RunEnd::Stops =>
+            "after this run this may never come, and always should: ",
+        RunEnd::Anything => "after this run a stream may be overtaken more often than it should: ",
+    });
+    out.put_plain(line);
 }
 
 /// Adds how the program breaks the rule at a place.

@@ -44,8 +44,8 @@ pub(crate) type ReadKey = Result<TypedKey, io::Error>;
 /// Where it passes it on.
 pub(crate) type KeySender = Sender<ReadKey, Global>;
 
-/// Reads lines and passes on what each asks for, up to one that asks for the end, to the end of the input, or to where it can't
-/// be read; unless who answers has given up already: where the system has no thread for it, this comes last.
+/// Reads lines and passes on what each asks for, up to one that asks for the end, to the end of the input, or to where
+/// it can't be read; unless who answers has given up already: where the system has no thread for it, this comes last.
 pub(crate) fn read_keys_if_first<X: Wait, R: Read>(
     rt: &X,
     is_begun: &AtomicBool,

@@ -235,8 +235,8 @@ impl WatchedExercise<'_, '_> {
         show(alloc, answered, printer, console)
     }
 
-    /// Whether the text of the program is another one than that which was judged last, which it then is. One that can't be read
-    /// counts as empty, and an empty one as no other: it may be a file that is just being written.
+    /// Whether the text of the program is another one than that which was judged last, which it then is. One that can't
+    /// be read counts as empty, and an empty one as no other: it may be a file that is just being written.
     fn has_changed<F: Files, R: Read>(
         &mut self,
         alloc: Global,

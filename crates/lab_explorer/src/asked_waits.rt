@@ -7,6 +7,7 @@ use lab_requests::{Bounds, ExploreRequest};
 use processor::Step;
 use search_texts::parts::LabFault;
 use search_texts::search_fault;
+use search_texts::searches::endless::answered::Rest;
 use search_texts::searches::endless::{EndlessWaits, MOST_STATES};
 use search_texts::searches::{Console, Explored, ProgramSearch, endless_waits_of, explore_program};
 use std::alloc::Global;
@@ -20,6 +21,8 @@ pub(crate) struct SearchedProgram<'a> {
     pub image: &'a Image,
     /// The steps that all schedules begin with.
     pub begin: &'a [Step],
+    /// Which streams may rest.
+    pub rests: &'a [Rest],
 }
 
 /// Whether a search leaves open who can wait forever in a program with an endless loop: no line requires an answer.
@@ -38,7 +41,7 @@ pub(crate) fn waits_asked<C: Clock, E: Write>(
 ) -> Result<Option<EndlessWaits>, LabFault> {
     let is_of_loops = !request.shown.json && is_left_open(found);
     if request.asks_who_waits || (is_of_loops && found.is_of_all_worlds) {
-        return Ok(Some(endless_waits_of(alloc, found)?));
+        return Ok(Some(endless_waits_of(alloc, found, program.rests)?));
     }
     if is_of_loops {
         return waits_in_all(alloc, program, request.bounds, console);
@@ -46,8 +49,8 @@ pub(crate) fn waits_asked<C: Clock, E: Write>(
     Ok(None)
 }
 
-/// Who can wait forever in a program, by a search of all states within these bounds, and of no more than [`MOST_STATES`]; None
-/// if that is not complete.
+/// Who can wait forever in a program, by a search of all states within these bounds, and of no more than
+/// [`MOST_STATES`]; None if that is not complete.
 fn waits_in_all<C: Clock, E: Write>(
     alloc: Global,
     program: SearchedProgram<'_>,
@@ -64,18 +67,18 @@ fn waits_in_all<C: Clock, E: Write>(
         },
         is_plain: true,
     };
-    waits_by_search(alloc, program.image, &asked, console)
+    waits_by_search(alloc, program, &asked, console)
 }
 
-/// Who can wait forever in an image's program, by this search of all states; None if it is not complete.
+/// Who can wait forever in a program, by this search of all states; None if it is not complete.
 fn waits_by_search<C: Clock, E: Write>(
     alloc: Global,
-    image: &Image,
+    program: SearchedProgram<'_>,
     asked: &ProgramSearch<'_>,
     console: &mut Console<'_, C, E>,
 ) -> Result<Option<EndlessWaits>, LabFault> {
-    match explore_program(alloc, image, asked, console) {
-        Ok(found) => waits_if_complete(alloc, &found),
+    match explore_program(alloc, program.image, asked, console) {
+        Ok(found) => waits_if_complete(alloc, &found, program.rests),
         Err(fault) => Err(search_fault(alloc, fault)?),
     }
 }
@@ -84,9 +87,10 @@ fn waits_by_search<C: Clock, E: Write>(
 fn waits_if_complete(
     alloc: Global,
     found: &Explored<'_>,
+    rests: &[Rest],
 ) -> Result<Option<EndlessWaits>, LabFault> {
     if !found.is_complete {
         return Ok(None);
     }
-    Ok(Some(endless_waits_of(alloc, found)?))
+    Ok(Some(endless_waits_of(alloc, found, rests)?))
 }

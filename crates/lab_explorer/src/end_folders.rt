@@ -1,6 +1,7 @@
 //! The folders that `explore` writes into: the schedule to each end, and the page of its run.
 
 use crate::end_pages::FoundProgram;
+use crate::evading_files::keep_evasions;
 use crate::waiting_files::keep_waits;
 use crate::written_files::WrittenFiles;
 use lab_requests::ExploreRequest;
@@ -33,8 +34,8 @@ fn make_folder<F: Files, R: Read>(
     }
 }
 
-/// Writes the schedule to each end, those of who can wait forever, and the pages of the runs to the ends, into the folders that
-/// are asked for and were made.
+/// Writes the schedule to each end, those of who can wait forever and of what does not lead to what it is to, and the
+/// pages of the runs to the ends, into the folders that are asked for and were made.
 pub(crate) fn write_folders<F: Files, R: Read>(
     alloc: Global,
     inputs: &Inputs<'_, F, R>,
@@ -47,6 +48,9 @@ pub(crate) fn write_folders<F: Files, R: Read>(
     if let Some(folder) = request.keep {
         keep_schedules(alloc, inputs, folder, &found.found.ends, written)?;
         keep_waits(alloc, inputs, folder, found.waits, written)?;
+        if let Some(program) = found.evading() {
+            keep_evasions(alloc, inputs, folder, program, written)?;
+        }
     }
     match request.pages {
         Some(folder) => found.write_pages(alloc, inputs, folder, written),

@@ -1,5 +1,6 @@
 //! The pages of the runs that lead to ends.
 
+use crate::evading_text::EvadingProgram;
 use crate::written_files::WrittenFiles;
 use expectation_files::{NEVER_BUSY, NEVER_STARVED, Requirements, WrittenLine};
 use plain_text::stem_of;
@@ -7,7 +8,7 @@ use replay_page::{MOST_STEPS, RunNames, RunVerdict, page_of_run};
 use search_texts::parts::{Inputs, LabFault, Program};
 use search_texts::push_expected;
 use search_texts::searches::endless::EndlessWaits;
-use search_texts::searches::{Explored, UnkeptWaits};
+use search_texts::searches::{Explored, UnkeptConditions, UnkeptWaits};
 use space_graphs::ends_in_words::broken_line;
 use space_graphs::ends_of_space::{SpaceEnd, SpaceEndKind};
 use std::alloc::{AllocError, Global};
@@ -33,7 +34,7 @@ pub(crate) struct FoundProgram<'a> {
     pub keep: Option<&'a str>,
 }
 
-impl FoundProgram<'_> {
+impl<'a> FoundProgram<'a> {
     /// Writes the page of the schedule to each end into a folder, as `1_deadlock.html` and so on: by the number of the end,
     /// and its kind. One that can't be written costs that page alone.
     pub(crate) fn write_pages<F: Files, R: Read>(
@@ -127,14 +128,15 @@ impl FoundProgram<'_> {
         }
     }
 
-    /// Whether the search does not decide a line that is required of the program as a whole: one about who does the work; that
-    /// nobody can wait forever; and, if it came to a bound, a claim that has to hold of one state at least and that none
-    /// shows, or that no stream loops alone.
+    /// Whether the search does not decide a line that is required of the program as a whole: one about who does the
+    /// work; that nobody can wait forever; a condition on runs; and, if it came to a bound, a claim that has to hold of
+    /// one state at least and that none shows, or that no stream loops alone.
     fn leaves_a_line(self) -> bool {
         let found = self.found;
         let is_open = found.unshown.is_some() || self.required.never_busy().is_some();
         !self.required.work().is_empty()
             || found.unkept().waits.is_some()
+            || found.unkept().conditions.is_some()
             || (!found.is_complete && is_open)
     }
 
@@ -158,7 +160,7 @@ impl FoundProgram<'_> {
     }
 
     /// The first line that the program as a whole does not meet, whatever the end: a rule of programs, a claim that has to
-    /// hold of one state at least, that no stream loops alone, or that none can wait forever.
+    /// hold of one state at least, that no stream loops alone, that none can wait forever, or a condition on runs.
     fn unkept_line(&self) -> Option<&str> {
         let unkept = self.found.unkept();
         if let Some(place) = unkept.rule {
@@ -172,11 +174,30 @@ impl FoundProgram<'_> {
                 return Some(NEVER_BUSY);
             }
         }
-        match unkept.waits {
-            Some(UnkeptWaits::Starved(_)) => Some(NEVER_STARVED),
-            Some(UnkeptWaits::Undecided(_) | UnkeptWaits::Unanswered(_) | UnkeptWaits::RunsAlone)
+        if let Some(UnkeptWaits::Starved(_)) = unkept.waits {
+            return Some(NEVER_STARVED);
+        }
+        match unkept.conditions {
+            Some(UnkeptConditions::Evaded(place)) => text_of(
+                self.required.condition_lines().get(place),
+            ),
+            Some(
+                UnkeptConditions::Undecided(_)
+                | UnkeptConditions::Unanswered(_)
+                | UnkeptConditions::RunsAlone,
+            )
             | None => None,
         }
+    }
+
+    /// The program, where it was asked whether all runs keep conditions.
+    pub(crate) fn evading(self) -> Option<EvadingProgram<'a>> {
+        let kept = self.found.kept.as_ref()?;
+        Some(EvadingProgram {
+            required: self.required,
+            kept,
+            keep: self.keep,
+        })
     }
 }
 

@@ -7,6 +7,7 @@ use processor::Step;
 use search_texts::parts::texts::ProgramNames;
 use search_texts::searches::Explored;
 use search_texts::searches::endless::EndlessWaits;
+use search_texts::searches::endless::answered::Rest;
 use search_texts::searches::endless::starving::StarvingStreams;
 use space_graphs::ends_of_space::SpaceEnd;
 use std::alloc::{AllocError, Global};
@@ -24,7 +25,9 @@ pub(crate) struct WaitingProgram<'a, 't> {
     pub keep: Option<&'a str>,
     /// Who can.
     pub waits: &'a EndlessWaits,
-    /// The streams of endless loops that can't, and of which that was decided.
+    /// Which streams may rest.
+    pub rests: &'a [Rest],
+    /// The streams of endless loops that can't, of which that was decided, and which may rest nowhere.
     pub going: &'a [Step],
 }
 
@@ -44,13 +47,14 @@ impl WaitingProgram<'_, '_> {
     }
 }
 
-/// The streams that can go on in an endless loop, and of which it was decided that they can't wait forever: each of them
-/// completes a step in every round that is fair by words, and in which it runs. They come in the order of processor and
-/// stream; none if it was not asked.
+/// The streams that can go on in an endless loop, and of which it was decided that they can't wait forever, but for those
+/// that may rest: each of them completes a step in every round that is fair by words, and in which it runs. They come in the
+/// order of processor and stream; none if it was not asked.
 pub(crate) fn going_streams(
     alloc: Global,
     found: &Explored<'_>,
     waits: &EndlessWaits,
+    rests: &[Rest],
 ) -> Result<Vec<Step>, AllocError> {
     let mut going: Vec<Step> = Vec::new(alloc);
     let EndlessWaits::Answered(answer) = waits else {
@@ -58,7 +62,7 @@ pub(crate) fn going_streams(
     };
     for end in found.ends.iter() {
         for stream in &end.running(alloc)? {
-            if !going.contains(stream) && is_never(answer, *stream) {
+            if !going.contains(stream) && is_never(answer, *stream) && !is_of_rest(rests, *stream) {
                 going.push(*stream)?;
             }
         }
@@ -71,6 +75,11 @@ pub(crate) fn going_streams(
 fn is_never(answer: &StarvingStreams, stream: Step) -> bool {
     !answer.undecided.contains(&stream)
         && !answer.starving.iter().any(|shown| shown.stream == stream)
+}
+
+/// Whether a stream may rest somewhere.
+fn is_of_rest(rests: &[Rest], stream: Step) -> bool {
+    rests.iter().any(|rest| rest.who == stream)
 }
 
 /// Whether it is an endless loop.

@@ -3,6 +3,8 @@
 use crate::asked_waits::is_left_open;
 use crate::end_pages::FoundProgram;
 use crate::endless::{WaitingProgram, going_streams, is_livelock, is_spinning};
+use crate::evading_objects::push_evading_objects;
+use crate::evading_text::push_evading_lines;
 use crate::explored_objects::push_objects;
 use end_kinds::Status;
 use expectation_files::Requirements;
@@ -51,6 +53,7 @@ pub(crate) fn answer_of(
         let words = words_of_ends(alloc, notation, required, image, &found.ends)?;
         push_lines(alloc, &mut output, required, found, &words)?;
     }
+    push_evasions(alloc, &mut output, is_json, shown)?;
     let of_waits = push_waits(alloc, &mut output, is_json, notation, shown)?;
     let status = found.status().worse(work_status(required)).worse(of_waits);
     Ok(CommandAnswer::printed(alloc, output, status))
@@ -71,21 +74,33 @@ fn push_waits(
         }
         return Ok(Status::Done);
     };
-    let going = going_streams(alloc, shown.found, waits)?;
+    let rests = shown.required.rests();
+    let going = going_streams(alloc, shown.found, waits, rests)?;
     let waiting = WaitingProgram {
         names: notation.names,
         image: &shown.program.image,
         begin: shown.found.begin(),
         keep: shown.keep,
         waits,
+        rests,
         going: &going,
     };
     waiting.push(alloc, out, is_json)?;
-    Ok(if shown.is_waiting_asked {
-        waits.status()
-    } else {
-        Status::Done
-    })
+    Ok(waits.status_if(shown.is_waiting_asked))
+}
+
+/// Adds the runs that never come to what a condition is to lead to, where that is required of some and one shows it.
+fn push_evasions(
+    alloc: Global,
+    out: &mut String,
+    is_json: bool,
+    shown: FoundProgram<'_>,
+) -> Result<(), AllocError> {
+    match shown.evading() {
+        Some(program) if is_json => push_evading_objects(alloc, out, program),
+        Some(program) => push_evading_lines(out, program),
+        None => Ok(()),
+    }
 }
 
 /// What it means for the exit status that a search does not decide who does the work.

@@ -105,6 +105,7 @@ fn searched<'a>(read: ReadProgram<'a, '_>) -> SearchedProgram<'a> {
     SearchedProgram {
         image: &read.program.image,
         begin: read.begin,
+        rests: read.required.rests(),
     }
 }
 

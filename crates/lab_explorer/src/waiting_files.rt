@@ -11,7 +11,7 @@ use std::rt::Files;
 use trace_text::write_schedule;
 
 /// How often the round stands in the second file: so a run shows that it comes back.
-const ROUNDS: usize = 2;
+pub(crate) const ROUNDS: usize = 2;
 
 /// Writes for each stream that can wait forever two schedules into a folder, as `waiting_1.0_stem.schedule` and
 /// `waiting_1.0.schedule`: the one that leads to its round, and that one with the round twice.

@@ -10,7 +10,7 @@ use search_texts::{put_turns, put_waiting};
 use std::alloc::{AllocError, Global};
 
 /// Blanks in front of the line below a stream.
-const INDENT: &str = "        ";
+pub(crate) const INDENT: &str = "        ";
 
 /// Adds who can wait forever in a program.
 pub(crate) fn push_waits_lines(
@@ -21,6 +21,9 @@ pub(crate) fn push_waits_lines(
     let mut out = TextWriter::take(text);
     if waiting.waits.is_nobody() {
         out.put("fair by words: nobody can be blocked forever");
+        if !waiting.rests.is_empty() {
+            out.put(" where it may not rest");
+        }
         out.put(match waiting.begin {
             0 => "\n",
             _ => " by a schedule that begins so\n",
@@ -55,7 +58,8 @@ fn put_undecided(out: &mut TextWriter, streams: &[Step]) {
     }
 }
 
-/// Adds the streams of endless loops that go on in every round, where some are, of schedules that all begin with so many steps.
+/// Adds the streams of endless loops that go on in every round, where some are, of schedules that all begin with so
+/// many steps.
 fn put_going(out: &mut TextWriter, streams: &[Step], begin: usize) {
     if streams.is_empty() {
         return;
@@ -100,7 +104,7 @@ fn put_starving(
 }
 
 /// Adds how many steps they are.
-fn put_steps(out: &mut TextWriter, count: usize) {
+pub(crate) fn put_steps(out: &mut TextWriter, count: usize) {
     out.put_number(count as u64);
     out.put(if count == 1 { " step" } else { " steps" });
 }

@@ -13,7 +13,7 @@ use plain_text::push_plain;
 use program_rules::first_broken;
 use search_texts::parts::{CommandAnswer, Inputs, LabFault, style_of};
 use search_texts::searches::{
-    Console, Explored, ProgramSearch, Unkept, UnkeptWaits, explore_program,
+    Console, Explored, ProgramSearch, Unkept, UnkeptConditions, UnkeptWaits, explore_program,
 };
 use search_texts::{
     EndCells, EndColumns, LookedAt, end_line, push_expected, push_unkept, push_unkept_objects,
@@ -140,6 +140,7 @@ fn unkept_by_seeds(
         rule: first_broken(&program.image, required.rules()),
         unshown: unshown_by_seeds(alloc, &program.image, required.claims(), tried)?,
         waits: waits_by_runs(required),
+        conditions: conditions_by_runs(required),
         undecided: required.never_busy(),
     })
 }
@@ -150,6 +151,15 @@ fn waits_by_runs(required: &Requirements) -> Option<UnkeptWaits> {
         Some(UnkeptWaits::RunsAlone)
     } else {
         None
+    }
+}
+
+/// That runs do not decide whether all runs keep conditions, if some are required.
+fn conditions_by_runs(required: &Requirements) -> Option<UnkeptConditions> {
+    if required.run_conditions().is_empty() {
+        None
+    } else {
+        Some(UnkeptConditions::RunsAlone)
     }
 }
 

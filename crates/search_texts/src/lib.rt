@@ -20,7 +20,7 @@ pub use expected_lines::ExpectedLines;
 pub use lab_ends as ends_in_words;
 pub use program_searches as searches;
 pub use search_faults::search_fault;
-pub use starving_texts::{put_turns, put_waiting};
+pub use starving_texts::{put_turns, put_waiting, stop_words};
 pub use unkept::{LookedAt, push_unkept, push_unkept_objects};
 pub use work_lines::{
     is_another_line, push_undecided_work, push_undecided_work_objects, work_words,

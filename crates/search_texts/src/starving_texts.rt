@@ -1,6 +1,7 @@
 //! Who can wait forever, in words.
 
 use command_parts::texts::{ProgramNames, RunPieces, TextWriter, wanted_word};
+use expectation_files::Requirements;
 use program_searches::Step;
 use program_searches::endless::SeenRound;
 use program_searches::endless::waits_of_streams::Wait;
@@ -30,6 +31,15 @@ fn put_wait(out: &mut TextWriter, names: &ProgramNames<'_>, wait: Wait) {
     out.put(", for ");
     names.put_address(out, wait.address);
     out.put_all(&[" to be ", wanted_word(wait.wanted)]);
+}
+
+/// What holds at the end of a run that need not go on, by what is required of the program.
+pub fn stop_words(required: &Requirements) -> &'static str {
+    if required.rests().is_empty() {
+        "no stream runs any more"
+    } else {
+        "no stream has to go on any more"
+    }
 }
 
 /// Adds the turns of a schedule, as `0 0 3, 1 0 2`, up to 40.

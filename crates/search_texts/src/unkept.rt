@@ -3,7 +3,9 @@
 use command_parts::push_object;
 use expectation_files::{NEVER_BUSY, NEVER_STARVED, Requirements, WrittenLine};
 use lab_json::{Object, line_value};
-use program_searches::{Unkept, UnkeptWaits};
+use program_searches::claims::{ClaimForm, LeadsTo};
+use program_searches::endless::answered::RunCondition;
+use program_searches::{Step, Unkept, UnkeptConditions, UnkeptWaits};
 use serde_json::Value;
 use std::alloc::{AllocError, Global};
 
@@ -38,7 +40,7 @@ impl LookedAt {
 }
 
 /// Adds the first rule that a program breaks, if it breaks one, the first claim that no world shows of those that were
-/// looked at, and why it is not known that nobody can wait forever.
+/// looked at, and why it is not known that nobody can wait forever, or that all runs keep each condition.
 pub fn push_unkept(
     out: &mut String,
     required: &Requirements,
@@ -58,6 +60,7 @@ pub fn push_unkept(
         write!(out, "{head}: {words} (line {line}): {place}\n")?;
     }
     push_waits(out, required, unkept)?;
+    push_conditions(out, required, unkept)?;
     if let Some(line) = unkept.undecided {
         write!(
             out,
@@ -96,6 +99,99 @@ fn push_waits(out: &mut String, required: &Requirements, unkept: Unkept) -> Resu
     }
 }
 
+/// Adds why it is not known that all runs keep each condition, where some is required.
+fn push_conditions(
+    out: &mut String,
+    required: &Requirements,
+    unkept: Unkept,
+) -> Result<(), AllocError> {
+    let Some(condition) = unkept.conditions else {
+        return Ok(());
+    };
+    let Some(said) = required.condition_lines().get(place_of(condition)) else {
+        return Ok(());
+    };
+    let (line, words) = (said.number, said.words.as_str());
+    match condition {
+        UnkeptConditions::Evaded(place) => {
+            write!(out, "NOT as expected: {words} (line {line}): ")?;
+            push_evaded(out, required, place)
+        }
+        UnkeptConditions::Undecided(place) => {
+            write!(out, "not decided: {words} (line {line}): whether ")?;
+            push_undecided(out, required, place)
+        }
+        UnkeptConditions::Unanswered(reason) => {
+            let why = reason.words();
+            write!(out, "not decided: {words} (line {line}): {why}\n")
+        }
+        UnkeptConditions::RunsAlone => {
+            write!(
+                out,
+                "not decided: {words} (line {line}): runs alone do not decide it; use --explore\n"
+            )
+        }
+    }
+}
+
+/// Adds how a run evades the condition at a place.
+fn push_evaded(out: &mut String, required: &Requirements, place: usize) -> Result<(), AllocError> {
+    match required.run_conditions().get(place) {
+        Some(RunCondition::Leads { leads, .. }) => {
+            push_comer(out, leads)?;
+            out.push_str(" may never come there\n")
+        }
+        Some(RunCondition::Overtaken(asked)) => {
+            let (p, s) = (asked.who.p, asked.who.s);
+            write!(out, "{p}.{s} is overtaken more often\n")
+        }
+        None => out.push_str("\n"),
+    }
+}
+
+/// Adds what of the condition at a place is not decided.
+fn push_undecided(
+    out: &mut String,
+    required: &Requirements,
+    place: usize,
+) -> Result<(), AllocError> {
+    match required.run_conditions().get(place) {
+        Some(RunCondition::Leads { leads, .. }) => {
+            push_comer(out, leads)?;
+            out.push_str(" always comes there\n")
+        }
+        Some(RunCondition::Overtaken(asked)) => {
+            let (p, s) = (asked.who.p, asked.who.s);
+            write!(out, "{p}.{s} is overtaken more often\n")
+        }
+        None => out.push_str("\n"),
+    }
+}
+
+/// The place of the condition whose line is named: where the reason is none of a condition, that of the first.
+fn place_of(condition: UnkeptConditions) -> usize {
+    match condition {
+        UnkeptConditions::Evaded(place) | UnkeptConditions::Undecided(place) => place,
+        UnkeptConditions::Unanswered(_) | UnkeptConditions::RunsAlone => 0,
+    }
+}
+
+/// Adds the stream that is to come somewhere.
+fn push_comer(out: &mut String, leads: &LeadsTo) -> Result<(), AllocError> {
+    match stream_to_come(leads) {
+        Some(Step { p, s }) => write!(out, "{p}.{s}"),
+        None => out.push_str("a stream"),
+    }
+}
+
+/// The first stream that a condition is to lead to.
+fn stream_to_come(leads: &LeadsTo) -> Option<Step> {
+    match &leads.to {
+        ClaimForm::Streams { groups, .. } => groups.first()?.streams.first().copied(),
+        ClaimForm::Word { .. } | ClaimForm::Compared { .. } => None,
+    }
+}
+
 /// Adds the objects of the same.
 pub fn push_unkept_objects(
     alloc: Global,
@@ -112,6 +208,7 @@ pub fn push_unkept_objects(
         push_line_object(alloc, out, "unshown", "claim", line)?;
     }
     push_waits_object(alloc, out, required, unkept)?;
+    push_conditions_object(alloc, out, required, unkept)?;
     if let Some(number) = unkept.undecided {
         let line = line_value(alloc, number, NEVER_BUSY);
         push_line_object(alloc, out, "undecided", "claim", line)?;
@@ -136,6 +233,29 @@ fn push_waits_object(
         }
     };
     let line = line_value(alloc, number, NEVER_STARVED);
+    push_line_object(alloc, out, kind, "claim", line)
+}
+
+/// Adds the object of the line about runs that is broken or not decided.
+fn push_conditions_object(
+    alloc: Global,
+    out: &mut String,
+    required: &Requirements,
+    unkept: Unkept,
+) -> Result<(), AllocError> {
+    let Some(condition) = unkept.conditions else {
+        return Ok(());
+    };
+    let Some(said) = required.condition_lines().get(place_of(condition)) else {
+        return Ok(());
+    };
+    let kind = match condition {
+        UnkeptConditions::Evaded(_) => "broken",
+        UnkeptConditions::Undecided(_)
+        | UnkeptConditions::Unanswered(_)
+        | UnkeptConditions::RunsAlone => { "undecided" }
+    };
+    let line = line_value(alloc, said.number, &said.words);
     push_line_object(alloc, out, kind, "claim", line)
 }
 

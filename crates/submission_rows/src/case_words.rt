@@ -1,5 +1,6 @@
 //! What decides a verdict, in words.
 
+use crate::evasion_words::evasion_words;
 use crate::report_lines::CaseLines;
 use case_cells::{SpokenRange, SpokenWords, spoken_words};
 use expectation_files::Requirements;
@@ -7,7 +8,7 @@ use expectation_messages::parts::made_by;
 use grade_rows::ReportLine;
 use grade_rows::judges::work::MissedWork;
 use grade_rows::judges::{
-    CaseJudgement, Known, MissedLine, Reason, RunFlaw, ShownRun, VerdictKind, Witness,
+    CaseJudgement, Evasion, Known, MissedLine, Reason, RunFlaw, ShownRun, VerdictKind, Witness,
 };
 use image_file::Image;
 use image_machines::by_room;
@@ -28,6 +29,9 @@ const NO_RUN_CAN: &str = "a run cannot show it; use --explore";
 
 /// What is said where a search has all, and it was not decided who can wait forever.
 const WAITS_LEFT_OPEN: &str = "it is not decided who can wait forever: explore says why";
+
+/// What is said where a search has all, and it was not decided whether all runs keep a condition.
+const CONDITIONS_LEFT_OPEN: &str = "a line about runs is not decided: explore says why";
 
 /// What decides a judgement by a case, in words.
 #[derive(Drop)]
@@ -71,8 +75,8 @@ pub(crate) struct CaseNotation<'a, 't> {
 }
 
 impl CaseNotation<'_, '_> {
-    /// Writes what decides a judgement: the line that is not met, why, and a finding: the first that is about a word of this line,
-    /// else the first of all.
+    /// Writes what decides a judgement: the line that is not met, why, and a finding: the first that is about a word of
+    /// this line, else the first of all.
     pub(crate) fn add_reason(
         self,
         alloc: Global,
@@ -83,7 +87,9 @@ impl CaseNotation<'_, '_> {
         text.missed = self.lines.line_of(alloc, missed)?;
         match &judgement.reason {
             Reason::Absent { .. } | Reason::Lacking { .. } | Reason::NotGiven { .. } => Ok(()),
-            Reason::Looked => text.words.push_str(left_open(judgement)),
+            Reason::Looked => text
+                .words
+                .push_str(left_open(judgement, self.lines.required)),
             Reason::Run(run) => self.add_run(alloc, run, missed, text),
             Reason::End(place) => match judgement.ends.get(*place) {
                 Some(end) => self.add_end(alloc, end, missed, text),
@@ -92,8 +98,14 @@ impl CaseNotation<'_, '_> {
             Reason::NoSchedule { .. } => text.words.push_str("no schedule has such a state"),
             Reason::NoRun { .. } => text.words.push_str("no run has such a state"),
             Reason::Starved(shown) => self.add_starving(alloc, shown, missed, text),
+            Reason::Evaded(shown) => self.add_evasion(alloc, shown, missed, text),
             Reason::NoRunCan => text.words.push_str(NO_RUN_CAN),
-            Reason::OpenWaits => text.words.push_str(why_open(judgement.known)),
+            Reason::OpenWaits => text
+                .words
+                .push_str(why_open(judgement.known, WAITS_LEFT_OPEN)),
+            Reason::OpenConditions => text
+                .words
+                .push_str(why_open(judgement.known, CONDITIONS_LEFT_OPEN)),
             Reason::Rule(_) => self.add_rule(text),
             Reason::Work(missed) => self.add_work(alloc, *missed, text),
         }
@@ -154,6 +166,19 @@ impl CaseNotation<'_, '_> {
     ) -> Result<(), AllocError> {
         text.words = self.waiting_words(alloc, shown)?;
         text.finding = self.finding(alloc, &shown.stem, missed)?;
+        Ok(())
+    }
+
+    /// Writes how a run evades a condition.
+    fn add_evasion(
+        self,
+        alloc: Global,
+        shown: &Evasion,
+        missed: Option<MissedLine>,
+        text: &mut CaseText,
+    ) -> Result<(), AllocError> {
+        text.words = evasion_words(alloc, self.lines.required, &shown.run)?;
+        text.finding = self.finding(alloc, &shown.run.stem, missed)?;
         Ok(())
     }
 
@@ -234,19 +259,23 @@ fn missed_line(judgement: &CaseJudgement) -> Option<MissedLine> {
     judgement.missed()
 }
 
-/// What a verdict leaves open by all that was looked at, after a search that has all: who can wait forever.
-fn left_open(judgement: &CaseJudgement) -> &'static str {
-    if judgement.kind == VerdictKind::NotDecided && judgement.known.is_every {
+/// What a verdict leaves open by all that was looked at, after a search that has all: who can wait forever, where nobody is
+/// to, or else whether all runs keep the conditions.
+fn left_open(judgement: &CaseJudgement, required: &Requirements) -> &'static str {
+    if judgement.kind != VerdictKind::NotDecided || !judgement.known.is_every {
+        return "";
+    }
+    if required.never_starved().is_some() {
         WAITS_LEFT_OPEN
     } else {
-        ""
+        CONDITIONS_LEFT_OPEN
     }
 }
 
-/// Why it is not decided who can wait forever, by what was looked at.
-fn why_open(known: Known) -> &'static str {
+/// Why it is not decided, by what was looked at: these words after a search that has all.
+fn why_open(known: Known, left_open: &'static str) -> &'static str {
     if known.is_every {
-        WAITS_LEFT_OPEN
+        left_open
     } else if known.worlds.is_some() {
         "the search is not complete"
     } else {
@@ -292,6 +321,7 @@ fn place_spoken(required: &Requirements, missed: Option<MissedLine>) -> Option<u
         Some(
             MissedLine::Busy
             | MissedLine::Starved
+            | MissedLine::Condition(_)
             | MissedLine::Rule(_)
             | MissedLine::Absent { .. },
         )

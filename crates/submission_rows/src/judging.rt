@@ -65,8 +65,8 @@ impl<'a, 'r> Grading<'a, 'r> {
 }
 
 impl Grading<'_, '_> {
-    /// What is asked of each submission. Where there is only one, its seeds are shared among the processors. (To start threads
-    /// for each of a class costs more than its runs, where one at a time is asked for.)
+    /// What is asked of each submission. Where there is only one, its seeds are shared among the processors. (To start
+    /// threads for each of a class costs more than its runs, where one at a time is asked for.)
     pub fn asked(&self) -> AskedJudging
         ensures requested { IsAskedBy self.now.request.now result }
         ensures all { result.counts_all ≡ self.now.request.now.counts_all }

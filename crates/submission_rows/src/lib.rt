@@ -7,6 +7,7 @@ mod alone;
 mod case_files;
 mod case_rows;
 mod case_words;
+mod evasion_words;
 mod given_images;
 mod judging;
 mod memory_shares;

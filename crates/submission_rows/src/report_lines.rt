@@ -26,6 +26,10 @@ impl CaseLines<'_> {
             None => Ok(None),
             Some(MissedLine::End(place)) => copy_of(alloc, required.end_lines().get(place)),
             Some(MissedLine::Claim(place)) => copy_of(alloc, required.claim_lines().get(place)),
+            Some(MissedLine::Condition(place)) => copy_of(
+                alloc,
+                required.condition_lines().get(place),
+            ),
             Some(MissedLine::Rule(place)) => copy_of(alloc, required.rule_lines().get(place)),
             Some(MissedLine::Work(place)) => copy_of(alloc, required.work_lines().get(place)),
             Some(MissedLine::Busy) => fixed_line(alloc, required.never_busy(), NEVER_BUSY),

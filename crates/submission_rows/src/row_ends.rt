@@ -39,8 +39,28 @@ fn counted_end(
         count: end.worlds(),
         witness: Witness::Schedule(schedule),
         text: text_of_end(alloc, shown.notation, lines.required, shown.image, end)?,
-        missed: lines.line_of(alloc, line_missed_by(end))?,
+        missed: lines.line_of(alloc, line_of_end(end))?,
     })
+}
+
+/// The line that an end of all schedules misses, as `explore` says it: of an endless loop the first that some of its
+/// worlds miss, which decides no verdict.
+fn line_of_end(end: &SpaceEnd) -> Option<MissedLine> {
+    match end.kind {
+        SpaceEndKind::End(EndKind::Spinning | EndKind::Looping) => {
+            let place = end.missed?;
+            Some(MissedLine::End(place))
+        }
+        SpaceEndKind::End(
+            EndKind::Finished
+            | EndKind::Stopped
+            | EndKind::Deadlock
+            | EndKind::Waiting
+            | EndKind::OutOfSteps,
+        )
+        | SpaceEndKind::Broken { .. }
+        | SpaceEndKind::Busy => line_missed_by(end),
+    }
 }
 
 /// How worlds end; None where they break a claim.

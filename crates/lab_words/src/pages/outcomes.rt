@@ -74,7 +74,8 @@ line never starved. A ticket, or a turnstile through which all go, lets each com
 
 = fairness fair
 Fairness: what is asked of a schedule before one says that a stream waits forever. By words: each stream has its steps, and
-one that waits for a word which is in the right state again and again gets it at last.
+one that waits for a word which is in the right state again and again gets it at last. A stream need not have steps where a
+line of a file of --expect lets it rest, as 1.0 may rest in outside.
 
 What to do: mta_lab explore lock.asm --waiting looks for rounds that are fair by words.
 
@@ -82,20 +83,21 @@ What to do: mta_lab explore lock.asm --waiting looks for rounds that are fair by
 Response: what a stream asks for comes at last, if the schedule is fair: whoever waits for a lock gets it, and whoever has a
 question gets an answer.
 
-What to do: mta_lab explore lock.asm --waiting says whether a stream can wait forever. explain fairness says what is fair.
+What to do: write 0.0 in try leads to 0.0 in inside in a file of --expect. mta_lab explore decides it, and shows a run that
+never comes there; --waiting says whether a stream can be blocked forever. explain fairness says what is fair.
 
 = overtaking overtake overtakes
 Overtaking: a stream that came later gets a lock before one that waits for it. If others can overtake it again and again, the
 one that waits may never get it.
 
 What to do: let each take a number by FADD, and enter in the order of the numbers. mta_lab new turns --from ticket writes
-such a lock.
+such a lock. 0.0 in wait is overtaken at most 1 times by 1.0 at inside in a file of --expect asks how often it comes to that.
 
 = livelock
 Livelock: streams take steps forever, and none of them comes any further, as two that step aside for each other.
 
-What to do: mta_lab explore says livelock below an endless loop in which no step changes a word. Where words change, always,
-never and some in a file of --expect can claim what has to come.
+What to do: mta_lab explore says livelock below an endless loop in which no step changes a word. Where words change, a line as
+0.0 in try leads to 0.0 in inside in a file of --expect says what has to come.
 
 = spinning
 Spinning: streams go on forever and nothing new happens, as a loop that polls a word that nobody changes.
