@@ -1,4 +1,4 @@
-// ---------------------------------------------------------------- findings of the way, by docs/FINDINGS.md
+// ---------------------------------------------------------------- findings of the way, by docs/LAB_REFERENCE.md
 
 const SOUGHT = 1000; // steps of a way in which findings are looked for
 const isSought = !data.begin; // what was read in the first steps that were given is not known

@@ -21,14 +21,15 @@ function tell() {
   }
   if (n === 0) {
     const begun = data.begin ? " The first steps were given: your way begins after them." : " No stream has stepped.";
-    return byId("told").replaceChildren(html("b", {}, "The start."), begun, " Choose a stream below.");
+    return byId("told").replaceChildren(html("b", {}, "The start."), begun, ...unkeptParts(n),
+      " Choose a stream below.");
   }
   const [k] = way[n - 1];
   const before = stateAt(n - 1);
   const { pc } = content(before, k);
   byId("told").replaceChildren(...votedParts(), `Step ${n}: `, html("b", {}, names[k]), " at ",
     html("b", {}, placeOf(pc)), " ", code(cut(statement(pc), 90)), ": ", ...joined(effectParts(before, k)), ".",
-    ...foundIn(n).flatMap((finding) => [" ", ...findingParts(finding)]), ...outOfReach(n));
+    ...foundIn(n).flatMap((finding) => [" ", ...findingParts(finding)]), ...outOfReach(n), ...unkeptParts(n));
 }
 
 const button = (text, act) => {

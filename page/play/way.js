@@ -35,6 +35,6 @@ const hasGoal = () => view.goal !== null || view.waiter !== null;
   goal is that a stream waits in it. */
 function endHere() {
   const w = here();
-  if (view.waiter !== null && data.ends[endIn.get(w)]?.kind === "spinning") return undefined;
+  if (view.waiter !== null && ["spinning", "looping"].includes(data.ends[endIn.get(w)]?.kind)) return undefined;
   return view.goal !== null && toGo[view.goal][w] === 0 ? view.goal : endIn.get(w);
 }

@@ -1,11 +1,11 @@
 //! What is required of a program, as it is written.
 
-use expectation_files::{NEVER_BUSY, NEVER_STARVED, Requirements, WrittenLine};
+use expectation_files::{NEVER_BUSY, Requirements, WrittenLine};
 use search_texts::is_another_line;
 use std::alloc::{AllocError, Global};
 
-/// What is expected of ends, and what is claimed, as it is written: first the lines on ends, in the order of the expectations.
-/// Lines about who does the work, and the one that no stream can wait forever, are not among them.
+/// What is expected of ends, and what is claimed, as it is written: first the lines on ends, in the order of the
+/// expectations. Lines about who does the work, and those about runs, are not among them.
 pub(crate) fn expected_texts(
     alloc: Global,
     required: &Requirements,
@@ -25,27 +25,27 @@ fn push_expected(texts: &mut Vec<String>, required: &Requirements) -> Result<(),
     push_words(texts, required.rule_lines())
 }
 
-/// The lines about who does the work, as they are written, each once, and the one that no stream can wait forever: the page
-/// does not judge them.
+/// The lines that the page does not judge, as they are written: those about who does the work, each once, and these about
+/// runs.
 pub(crate) fn unjudged_texts(
     alloc: Global,
     required: &Requirements,
+    open: &[&str],
 ) -> Result<Vec<String>, AllocError> {
     let mut texts = Vec::new(alloc);
-    push_unjudged(&mut texts, required)?;
+    push_each_once(&mut texts, required.work_lines())?;
+    for words in open {
+        push_text(&mut texts, words)?;
+    }
     Ok(texts)
 }
 
-/// Adds the lines that the page does not judge.
-fn push_unjudged(texts: &mut Vec<String>, required: &Requirements) -> Result<(), AllocError> {
-    let lines = required.work_lines();
+/// Adds the words of lines, of which some stand several times, once for each line.
+fn push_each_once(texts: &mut Vec<String>, lines: &[WrittenLine]) -> Result<(), AllocError> {
     for (place, line) in lines.iter().enumerate() {
         if is_another_line(lines, place) {
             push_text(texts, &line.words)?;
         }
-    }
-    if required.never_starved().is_some() {
-        push_text(texts, NEVER_STARVED)?;
     }
     Ok(())
 }

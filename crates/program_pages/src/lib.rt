@@ -5,6 +5,7 @@ mod expected_texts;
 mod play_pages;
 mod played_programs;
 mod replays;
+mod run_lines;
 mod unmade_pages;
 
 pub use play_pages::{PlayPage, page_of_schedules, play_page};

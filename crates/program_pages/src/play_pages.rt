@@ -2,6 +2,7 @@
 
 use crate::expected_texts::{expected_texts, unjudged_texts};
 use crate::played_programs::{PageChoices, PlayedProgram};
+use crate::run_lines::RunLines;
 use image_machines::by_room;
 use lab_requests::Bounds;
 use lab_texts::{Notation, NumberStyle};
@@ -169,7 +170,8 @@ fn graph_on<const S: usize>(
     } = judged;
     let required = played.required;
     let expected = expected_texts(alloc, required)?;
-    let unjudged = unjudged_texts(alloc, required)?;
+    let lines = RunLines::of(alloc, required, found)?;
+    let unjudged = unjudged_texts(alloc, required, &lines.open)?;
     let notation = Notation {
         names: played.names,
         style: NumberStyle::Decimal,
@@ -183,6 +185,7 @@ fn graph_on<const S: usize>(
     let asked = GraphNames {
         program: played.called,
         expected: &expected,
+        runs: &lines.judged,
         unjudged: &unjudged,
         criteria,
         goal,

@@ -28,8 +28,8 @@ pub(crate) fn is_running(numbers: &[u32]) -> bool {
     word_at(numbers, STATUS) == 1
 }
 
-/// What the stream of these numbers holds: its status and its pc, and by their names all other parts that are not as usual: zero,
-/// and of t0 that it names no handler.
+/// What the stream of these numbers holds: its status and its pc, and by their names all other parts that are not as
+/// usual: zero, and of t0 that it names no handler.
 pub(crate) fn content_json(alloc: Global, numbers: &[u32]) -> Result<Value, AllocError> {
     let mut content = Object::new(alloc);
     content.put("status", status_json(alloc, word_at(numbers, STATUS)));

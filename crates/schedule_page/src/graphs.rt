@@ -2,6 +2,7 @@
 
 use crate::columns::{Column, column_of};
 use crate::ends::{EndRequirements, PageEnds, ends_json, schedule_text, texts_json};
+use crate::judged_lines::{JudgedLine, lines_json};
 use crate::numbers::number_of;
 use crate::opened::text_opened_after;
 use crate::page_tables::{HeldContents, PageTables};
@@ -25,6 +26,8 @@ pub struct GraphNames<'a> {
     pub program: &'a str,
     /// What each end has to be and what is claimed, as it is written.
     pub expected: &'a [String],
+    /// The lines about runs that were judged.
+    pub runs: &'a [JudgedLine<'a>],
     /// The lines of the expectation that the page does not judge, as they are written.
     pub unjudged: &'a [String],
     /// What decides besides the ends whether they are right.
@@ -109,6 +112,7 @@ fn put_ends(
     let begin = space.begin();
     graph.put("ends", ends_json(alloc, ends, begin.len(), judging));
     graph.put("expected", texts_json(alloc, asked.expected));
+    graph.put("runs", lines_json(alloc, asked.runs, begin.len()));
     graph.put("unjudged", texts_json(alloc, asked.unjudged));
     graph.put("begin", schedule_text(alloc, begin));
     graph.put("goal", Ok(goal_json(asked.goal)));

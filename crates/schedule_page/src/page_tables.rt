@@ -138,8 +138,8 @@ impl PageTables {
         Ok(())
     }
 
-    /// The number of the content of a processor's stream whose numbers stand at a place of the table; it is added if it is not
-    /// there. Streams of other processors that hold the same have another: a CREATE hangs on its processor.
+    /// The number of the content of a processor's stream whose numbers stand at a place of the table; it is added if it
+    /// is not there. Streams of other processors that hold the same have another: a CREATE hangs on its processor.
     fn content_number(
         &mut self,
         alloc: Global,

@@ -15,6 +15,7 @@ mod kinds_script;
 mod lanes_script;
 mod lecture_script;
 mod lecture_style;
+mod lines_script;
 mod map_script;
 mod naming_script;
 mod panes_script;
@@ -70,6 +71,7 @@ pub(crate) fn push_tail(page: &mut String) -> Result<(), AllocError> {
     page.push_str(waiting_script::TEXT)?;
     page.push_str(claims_script::TEXT)?;
     page.push_str(telling_script::TEXT)?;
+    page.push_str(lines_script::TEXT)?;
     page.push_str(why_script::TEXT)?;
     page.push_str(lecture_script::TEXT)?;
     page.push_str(choices_script::TEXT)?;

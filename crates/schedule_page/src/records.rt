@@ -115,8 +115,8 @@ impl Records {
         Ok(number_of(number))
     }
 
-    /// Of each of so many contents which record its step has: -1 if no stream that holds it runs, the record's number if it has
-    /// the same whatever is shared, else pairs of what is shared and the record.
+    /// Of each of so many contents which record its step has: -1 if no stream that holds it runs, the record's number
+    /// if it has the same whatever is shared, else pairs of what is shared and the record.
     pub(crate) fn does_json(&self, alloc: Global, contents: usize) -> Result<Value, AllocError> {
         let rows = self.rows(alloc, contents)?;
         let mut does = List::new(alloc);

@@ -1,7 +1,7 @@
 //! A text of the page: `page/play/findings.js`. Made by `page/embed.py`.
 
 pub(crate) const TEXT: &str =
-    r#"// ---------------------------------------------------------------- findings of the way, by docs/FINDINGS.md
+    r#"// ---------------------------------------------------------------- findings of the way, by docs/LAB_REFERENCE.md
 
 const SOUGHT = 1000; // steps of a way in which findings are looked for
 const isSought = !data.begin; // what was read in the first steps that were given is not known

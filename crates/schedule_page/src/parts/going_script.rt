@@ -18,25 +18,34 @@ function lead() {
   const others = names.some((_, k) => !content(0, k).status) ? " and starts others" : "";
   const who = running.length === 1 ? `The stream ${running[0]} runs${others}`
     : `The streams ${and(running)} run at once`;
-  const given = begunSteps ? `The first ${steps(begunSteps)} of each schedule here ${begunSteps === 1 ? "is" : "are"} `
-    + "given. " : "";
+  const first = begunSteps === 1 ? "step of each schedule here is" : `${steps(begunSteps)} of each schedule here are`;
+  const given = begunSteps ? `The first ${first} given. ` : "";
   if (!running.length) return [`${given}No stream runs any more.`];
   return [`${given}${who}, and nothing says whose instruction comes next: you do. Press a button below, or its number. `
     + `This page knows every schedule${begins || " there is"}: they lead to `
     + `${count(N, "state", "states")} and ${count(n, "end", "ends")}.${verdictText()}`];
 }
 
-/** What follows from it that every schedule ends right; no more than that, where some line is not judged. */
+/** What follows from it that every schedule ends right; no more than that, where some line is not judged or not kept. */
 function rightText() {
   if (data.unjudged.length) return `, as far as this page judges. It does not judge ${unjudgedText()}.`;
-  return runsForever() ? "." : ": you can’t break it.";
+  return unkeptLines.length || runsForever() ? "." : ": you can’t break it.";
 }
 
-/** What holds of all schedules of the page. */
-function verdictText() {
+/** What holds of all schedules of the page, and of all runs. */
+const verdictText = () => endingText() + unkeptText();
+
+/** What is expected of ends, in brackets; nothing if lines about runs are all. */
+const expectedPart = () => (data.expected.length + data.unjudged.length ? ` (expected: ${expectedText()})` : "");
+
+/** What holds of the ends of all schedules of the page. */
+function endingText() {
   const [n, goods] = [data.ends.length, data.ends.filter((end) => end.right).length];
-  if (isJudged && goods === 0) return ` No schedule${begins} ends right (expected: ${expectedText()}).`;
+  if (isJudged && goods === 0) return ` No schedule${begins} ends right${expectedPart()}.`;
   if (isJudged && goods < n) return "";
+  if (isJudged && data.ends.every((end) => end.kind === "looping")) {
+    return ` No schedule${begins} ends: each runs forever, as it may${data.unjudged.length ? rightText() : "."}`;
+  }
   const ending = `${begins}${begins ? " and" : " that"} ends`;
   if (isJudged) return ` Every schedule${runsForever() ? `${ending},` : begins} ends right${rightText()}`;
   if (n > 1) return "";

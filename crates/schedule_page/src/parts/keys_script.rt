@@ -78,8 +78,8 @@ function listen() {
 }
 
 byId("program").textContent = cut(data.name, 80);
-byId("counted").textContent = `with all ${begunSteps ? "" : "its "}${count(N, "state", "states")} `
-  + `${begunSteps ? `that it reaches after ${steps(begunSteps)} that are given, ` : ""}`
+byId("counted").textContent = `with ${N === 1 ? "" : "all "}${begunSteps ? "" : "its "}${count(N, "state", "states")} `
+  + `${begunSteps ? `that it reaches after ${steps(begunSteps)} that ${begunSteps === 1 ? "is" : "are"} given, ` : ""}`
   + `and ${count(data.counted.steps, "step", "steps")} between them`;
 makeChoices();
 makeSource();

@@ -169,7 +169,7 @@ function drawBands() {
 function showMap() {
   const isDrawn = N <= DRAWN;
   byId("map-title").textContent = isDrawn
-    ? `All ${count(N, "state", "states")} that any schedule${begins} reaches`
+    ? `${N === 1 ? "" : "All "}${count(N, "state", "states")} that any schedule${begins} reaches`
     : `All ${count(N, "state", "states")}${begunSteps ? " after the steps that are given" : ""}: how many there are `
       + "after so many steps";
   if (isDrawn) drawGraph();

@@ -75,7 +75,7 @@ function showEnds() {
   });
   const more = data.ends.length - rows.length;
   byId("ends").replaceChildren(html("h2", {}, "What can still come"), html("ul", { "aria-label": "Ends" }, ...rows),
-    ...(more > 0 ? [html("p", { class: "muted" }, `${count(more, "more end", "more ends")}.`)] : []), ...judgeNotes());
+    ...(more > 0 ? [html("p", { class: "muted" }, `${count(more, "more end", "more ends")}.`)] : []), ...runNotes(), ...judgeNotes());
   if (focused) (byId("ends").querySelector(`[data-end="${focused}"] .show`)
     ?? byId("undo")).focus({ preventScroll: true });
 }

@@ -206,6 +206,7 @@ table { border-collapse: collapse; width: 100%; font-size: 13px; }
 #ends li { display: flex; gap: 4px 10px; align-items: center; padding: 4px 12px; border-top: 1px solid var(--faint); }
 #ends .togo { flex: 1 0 78px; text-align: right; font-size: 12.5px; color: var(--muted); }
 #ends .show { flex: none; min-width: 88px; text-align: center; }
+#ends .line { flex: 1 1 140px; font-size: 12.5px; overflow-wrap: anywhere; }
 #map, #words, #streams { border-top: 1px solid var(--rule); }
 #ends p { padding: 4px 12px 8px; font-size: 12.5px; } #ends ul + p { border-top: 1px solid var(--faint); }
 #ends p .sign { vertical-align: -3px; }

@@ -5,7 +5,7 @@ pub(crate) const TEXT: &str = r#"<!doctype html>
 <head>
 <meta charset="utf-8">
 <meta http-equiv="Content-Security-Policy"
- content="default-src 'none'; script-src 'sha256-/ei3P8alOSEYgWAmdv1MtR4qZha1j9io8PUBaW/cRAk='; style-src 'sha256-9a9a+A7h5CtcWagVeswsSt8rnILZxazmhBYaeknKNyQ=';
+ content="default-src 'none'; script-src 'sha256-6lyZeyvCePRCZST3OEisTagI/pHOeGDjq+bu0O2NZL4='; style-src 'sha256-PenuSv2Wnl7lmlt5cVbIwO1lkCsqzqJ/PapnhXsUgqM=';
  base-uri 'none'; form-action 'none'">
 <meta name="viewport" content="width=device-width, initial-scale=1">
 <meta name="color-scheme" content="light dark">
