@@ -1,7 +1,8 @@
 //! Requests before a program is launched.
 
-ghost use Rattle.std.specs.Prelude.{OnOk, string_bytes};
-ghost use Rattle.adapter_messages.specs.Responses.{SendsResponse};
+ghost use Rattle.std.specs.Prelude.{◌≡◌, ◌≢◌, IfOk, OnOk, string_bytes};
+ghost use Rattle.adapter_messages.specs.Responses.{SendsResponse, SendsOne, next_number};
+ghost use Rattle.adapter_messages.specs.Greetings.{no_command_words, flow_after, greeting_head};
 
 use crate::commands::DapCommand;
 use crate::connection::Connection;
@@ -29,7 +30,10 @@ pub struct Client {
 
 impl Client {
     /// A client that says nothing of itself.
-    pub fn usual() -> Client {
+    pub fn usual() -> Client
+        ensures line { result.first_line ≡ 1 }
+        ensures column { result.first_column ≡ 1 }
+    {
         Client {
             first_line: 1,
             first_column: 1,
@@ -47,6 +51,11 @@ pub fn greet(
 ) -> Result<Flow, AllocError>
     ensures one { OnOk result (SendsResponse connection.old.outbox connection.new.outbox
         request.now.seq (string_bytes request.now.command)) }
+    ensures says { OnOk result (SendsOne connection.old.outbox connection.new.outbox
+        (greeting_head connection.new.sent request.now.seq (string_bytes request.now.command) request.now.kind)) }
+    ensures number { connection.new.sent ≡ next_number connection.old.sent }
+    ensures flow { IfOk result (λ flow. flow ≡ flow_after request.now.kind) }
+    ensures client { request.now.kind ≢ Some DapCommand.Initialize → client.new ≡ client.old }
 {
     let command = request.command.as_str();
     match request.kind {
@@ -74,7 +83,9 @@ pub fn greet(
 }
 
 /// Why a command that is none is refused.
-pub fn no_command(command: &str) -> &'static str {
+pub fn no_command(command: &str) -> &'static str
+    ensures { result.now ≡ no_command_words command.now }
+{
     match command {
         "" => "this is no request",
         "setVariable" | "setExpression" | "writeMemory" =>

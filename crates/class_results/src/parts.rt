@@ -24,6 +24,7 @@ impl ClassPart {
     pub fn of_text(text: &str) -> Option<ClassPart>
         ensures from { IfSome result (λ part. 0 < part.number) }
         ensures to { IfSome result (λ part. part.number ≤ part.count) }
+        ensures most { IfSome result (λ part. part.count ≤ 1000000) }
     {
         let (number, count) = text.split_once('/')?;
         let number = number.parse::<usize>().ok()?;

@@ -1,5 +1,8 @@
 //! Why requests are refused.
 
+ghost use Rattle.std.specs.Prelude.{◌≡◌};
+ghost use Rattle.language_messages.specs.Numbers.{error_number};
+
 use std::alloc::{AllocError, AllocFailed};
 
 /// The kinds of errors, by the protocol's numbers.
@@ -21,7 +24,9 @@ pub enum RefusalKind {
 
 impl RefusalKind {
     /// The number of the error, without its sign: all are negative.
-    pub fn number(self) -> u64 {
+    pub fn number(self) -> u64
+        ensures { result ≡ error_number self }
+    {
         match self {
             RefusalKind::NotJson => 32_700,
             RefusalKind::NotNow => 32_600,
@@ -44,7 +49,10 @@ pub struct Refusal {
 
 impl Refusal {
     /// Wrong parameters, or what can't be done, for a reason in words.
-    pub fn of_parameters(words: &'static str) -> Refusal {
+    pub fn of_parameters(words: &'static str) -> Refusal
+        ensures kind { result.kind ≡ RefusalKind.Parameters }
+        ensures words { result.words.now ≡ words.now }
+    {
         Refusal {
             kind: RefusalKind::Parameters,
             words,
