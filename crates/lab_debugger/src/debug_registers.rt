@@ -23,7 +23,7 @@ const STATES: [StreamPart; 5] = [
 impl<'a, 'i, 't, const S: usize> DebugRepl<'a, 'i, 't, S> {
     /// Adds where a stream stands, and all its registers.
     pub(crate) fn put_registers(&self, step: Step, out: &mut TextWriter) {
-        if self.named.pc(step.p, step.s).is_none() {
+        if !self.has(step) {
             out.put(NO_STREAM);
             return;
         }

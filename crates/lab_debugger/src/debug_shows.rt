@@ -23,6 +23,12 @@ impl<'a, 'i, 't, const S: usize> DebugRepl<'a, 'i, 't, S> {
         let session = &self.named.session;
         put_position(out, session.position(), session.schedule().len());
         match session.next_step() {
+            Some(step) if !self.has(step) => {
+                out.put("; next ");
+                out.put_stream(step.p, step.s);
+                out.put(": ");
+                out.put(NO_STREAM);
+            }
             Some(step) if self.is_idle(step) => {
                 out.put("; next ");
                 out.put_stream(step.p, step.s);
@@ -136,7 +142,9 @@ impl<'a, 'i, 't, const S: usize> DebugRepl<'a, 'i, 't, S> {
             part: StreamPart::Register(register),
         };
         match self.named.value(place) {
-            Some(Content::Number(number)) => put_named_register(out, step, register, number),
+            Some(Content::Number(number)) if self.has(step) => {
+                put_named_register(out, step, register, number)
+            }
             _ => out.put(NO_STREAM),
         }
     }
@@ -148,6 +156,7 @@ impl<'a, 'i, 't, const S: usize> DebugRepl<'a, 'i, 't, S> {
             return;
         };
         match self.named.pc(step.p, step.s) {
+            Some(_) if !self.has(step) => out.put(NO_STREAM),
             Some(_) if self.is_idle(step) => put_idle(step, out),
             Some(pc) => put_around(out, self.names, self.columns.place, pc),
             None => out.put(NO_STREAM),
@@ -159,6 +168,10 @@ impl<'a, 'i, 't, const S: usize> DebugRepl<'a, 'i, 't, S> {
         let Some(step) = self.stream_of(rest) else {
             return self.put_reason(rest, out);
         };
+        if !self.has(step) {
+            out.put(NO_STREAM);
+            return Ok(());
+        }
         let Some(wait) = self.named.wait(step.p, step.s) else {
             out.put_stream(step.p, step.s);
             out.put(" does not wait\n");

@@ -202,8 +202,7 @@ impl<'a, 'i, 't, const S: usize> DebugRepl<'a, 'i, 't, S> {
         let Some(watched) = self.register_named(rest) else {
             return Ok(false);
         };
-        let machine = self.named.session.machine();
-        if machine.stream(watched.stream.p, watched.stream.s).is_none() {
+        if !self.has(watched.stream) {
             out.put(NO_STREAM);
             return Ok(true);
         }

@@ -1,7 +1,7 @@
 //! Steps in place of the schedule's, and how they are taken back.
 
 use crate::debug_repl::{DebugRepl, refuse};
-use crate::debug_shows::put_idle;
+use crate::debug_shows::{NO_STREAM, put_idle};
 use debug_commands::Command;
 use named_session::{UserName, read_name};
 use printed_lines::parts::LabFault;
@@ -25,6 +25,10 @@ impl<'a, 'i, 't, const S: usize> DebugRepl<'a, 'i, 't, S> {
             out.put("try takes a stream, as 2.0\n");
             return Ok(());
         };
+        if !self.has(step) {
+            out.put(NO_STREAM);
+            return Ok(());
+        }
         if !self.runs(step) {
             put_idle(step, out);
             return Ok(());
@@ -74,6 +78,12 @@ impl<'a, 'i, 't, const S: usize> DebugRepl<'a, 'i, 't, S> {
             }
             Err(fault) => refuse(fault, out),
         }
+    }
+
+    /// Whether the program has a stream. A stream from the image's slim on is not there, whatever the machine's room is.
+    pub(crate) fn has(&self, step: Step) -> bool {
+        let machine = self.named.session.machine();
+        u16::from(step.s) < machine.image().slim() && machine.stream(step.p, step.s).is_some()
     }
 
     /// Whether a stream runs.

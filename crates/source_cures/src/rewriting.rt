@@ -169,9 +169,27 @@ fn propose_other_part(out: &mut Proposals, marked: &Marked) -> Result<(), AllocE
         };
         let text = format!(in out.alloc(); "ADD {}, {}, 0", text_of(*to), text_of(*from))?;
         out.write(&marked.line, marked.operation(), text.as_str())
+    } else if marked.is_of("TSET") || marked.is_of("TGET") {
+        propose_either(out, marked)
     } else {
         propose_moved(out, marked)
     }
+}
+
+/// Proposes for TSET and TGET the one that a sentence describes: the other one, or the operands in the other order.
+fn propose_either(out: &mut Proposals, marked: &Marked) -> Result<(), AllocError> {
+    let Some((name, _)) = marked.help.split_once(" moves a ") else {
+        return Ok(());
+    };
+    if !marked.is_of(name) {
+        return propose_name(out, marked, name);
+    }
+    let operands = operands_of(out.alloc(), marked.operation())?;
+    let [first, second] = operands.as_slice() else {
+        return Ok(());
+    };
+    let text = format!(in out.alloc(); "{name} {}, {}", text_of(*second), text_of(*first))?;
+    out.write(&marked.line, marked.operation(), text.as_str())
 }
 
 /// Proposes the statement that moves a register: `TSET t1, r2 moves it ..`, `TGET r1, t2 moves it ..`.
