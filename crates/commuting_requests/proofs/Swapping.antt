@@ -21,7 +21,7 @@ some_same : {x y : ProcessorValue} → Some x ≡ Some y → x ≡ y
 some_same e = cc
 
 -- the two steps are of one processor, or of two
-apart_of : (t u : Step) → u ≢ t → ((u.p ≡ t.p) × (u.s ≢ t.s)) ⊎ (u.p ≢ t.p)
+pub apart_of : (t u : Step) → u ≢ t → ((u.p ≡ t.p) × (u.s ≢ t.s)) ⊎ (u.p ≢ t.p)
 apart_of t u apart = by_processor (same_or_other u.p t.p) (same_or_other u.s t.s) where
   by_processor : (u.p ≡ t.p) ⊎ (u.p ≢ t.p) → (u.s ≡ t.s) ⊎ (u.s ≢ t.s) → ((u.p ≡ t.p) × (u.s ≢ t.s)) ⊎ (u.p ≢ t.p)
   by_processor (inl same) (inl one) = absurd (apart (λ i. record { p = same i; s = one i }))
@@ -55,10 +55,10 @@ module _ (image : ImageValue) where
   module _ (w : World) (t u : Step) (s x : StreamValue) (q r : Option Request)
       (f : IsRequestStep image w t s q) (g : IsRequestStep image w u x r)
       (same : u.p ≡ t.p) (two : u.s ≢ t.s) where
-    abbrev to : ProcessorValue
+    abbrev pub to : ProcessorValue
     to = into image t.s s f.request.insn (memory_reply w.memory q).1 f.processor
 
-    one_processor : g.processor ≡ f.processor
+    pub one_processor : g.processor ≡ f.processor
     one_processor = some_same (sym g.there ∙ ap (slice_get w.processors) same ∙ f.there)
 
     beside : IsRequestStep image (after image w t) u x r
@@ -75,14 +75,16 @@ module _ (image : ImageValue) where
       request = g.request;
     }
 
-    order_beside : (memory_reply (memory_reply w.memory q).0 r).1 ≡ (memory_reply w.memory r).1
-        → after image (after image w t) u
+    -- whatever the second one gets
+    pub both_beside : after image (after image w t) u
         ≡ record {
-          processors = set w.processors t.p (into image u.s x g.request.insn (memory_reply w.memory r).1 to);
+          processors =
+              set w.processors t.p (into image u.s x g.request.insn (memory_reply (memory_reply w.memory q).0 r).1 to);
           memory = (memory_reply (memory_reply w.memory q).0 r).0;
         }
     unfolding beside
-    order_beside past =
+    both_beside =
+        let got = (memory_reply (memory_reply w.memory q).0 r).1 in
         moved (after image w t) u x r beside
         ∙ ap
         (λ (v : World). record {
@@ -91,11 +93,24 @@ module _ (image : ImageValue) where
         })
         (moved w t s q f)
         ∙ (λ k. record {
-          processors = set (set w.processors t.p to) (same k) (into image u.s x g.request.insn (past k) to);
+          processors = set (set w.processors t.p to) (same k) (into image u.s x g.request.insn got to);
           memory = (memory_reply (memory_reply w.memory q).0 r).0;
         })
         ∙ (λ k. record {
-          processors = set-set w.processors t.p to (into image u.s x g.request.insn (memory_reply w.memory r).1 to) k;
+          processors = set-set w.processors t.p to (into image u.s x g.request.insn got to) k;
+          memory = (memory_reply (memory_reply w.memory q).0 r).0;
+        })
+
+    order_beside : (memory_reply (memory_reply w.memory q).0 r).1 ≡ (memory_reply w.memory r).1
+        → after image (after image w t) u
+        ≡ record {
+          processors = set w.processors t.p (into image u.s x g.request.insn (memory_reply w.memory r).1 to);
+          memory = (memory_reply (memory_reply w.memory q).0 r).0;
+        }
+    order_beside past =
+        both_beside
+        ∙ (λ k. record {
+          processors = set w.processors t.p (into image u.s x g.request.insn (past k) to);
           memory = (memory_reply (memory_reply w.memory q).0 r).0;
         })
 
@@ -103,7 +118,7 @@ module _ (image : ImageValue) where
   module _ (w : World) (t u : Step) (s x : StreamValue) (q r : Option Request)
       (f : IsRequestStep image w t s q) (g : IsRequestStep image w u x r)
       (far : u.p ≢ t.p) where
-    abbrev there_to : ProcessorValue
+    abbrev pub there_to : ProcessorValue
     there_to = into image t.s s f.request.insn (memory_reply w.memory q).1 f.processor
 
     beyond : IsRequestStep image (after image w t) u x r
@@ -116,15 +131,16 @@ module _ (image : ImageValue) where
       request = g.request;
     }
 
-    order_beyond : (memory_reply (memory_reply w.memory q).0 r).1 ≡ (memory_reply w.memory r).1
-        → after image (after image w t) u
+    -- whatever the second one gets
+    pub both_beyond : after image (after image w t) u
         ≡ record {
           processors =
-              set (set w.processors t.p there_to) u.p (into image u.s x g.request.insn (memory_reply w.memory r).1 g.processor);
+              set (set w.processors t.p there_to) u.p
+              (into image u.s x g.request.insn (memory_reply (memory_reply w.memory q).0 r).1 g.processor);
           memory = (memory_reply (memory_reply w.memory q).0 r).0;
         }
     unfolding beyond
-    order_beyond past =
+    both_beyond =
         moved (after image w t) u x r beyond
         ∙ ap
         (λ (v : World). record {
@@ -132,6 +148,16 @@ module _ (image : ImageValue) where
           memory = (memory_reply v.memory r).0;
         })
         (moved w t s q f)
+
+    order_beyond : (memory_reply (memory_reply w.memory q).0 r).1 ≡ (memory_reply w.memory r).1
+        → after image (after image w t) u
+        ≡ record {
+          processors =
+              set (set w.processors t.p there_to) u.p (into image u.s x g.request.insn (memory_reply w.memory r).1 g.processor);
+          memory = (memory_reply (memory_reply w.memory q).0 r).0;
+        }
+    order_beyond past =
+        both_beyond
         ∙ (λ k. record {
           processors =
               set (set w.processors t.p there_to) u.p (into image u.s x g.request.insn (past k) g.processor);

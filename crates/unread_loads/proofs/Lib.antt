@@ -1,0 +1,2 @@
+pub mod LoadedNumbers
+pub mod Orders
