@@ -1,4 +1,4 @@
-//! What the end of a run has to be, judged of a machine ("Expectations", docs/FORMATS.md).
+//! What the end of a run has to be, judged of a machine ("Files of expectations", docs/LAB_REFERENCE.md).
 #![tactic(auto)]
 
 mod expectation;

@@ -13,7 +13,7 @@ use crate::torn::{TornRead, torn_by_links};
 use crate::unread::{UnreadStore, unread_by_links};
 use std::alloc::{AllocError, Global};
 
-/// What is found in a run (docs/FINDINGS.md).
+/// What is found in a run ("Findings", docs/LAB_REFERENCE.md).
 #[derive(Drop)]
 pub struct Findings {
     /// Its lost updates, as [`lost_updates`](crate::lost_updates) finds them.

@@ -1,5 +1,5 @@
 //! What went wrong in a run, by what each of its steps read and wrote: lost updates, unread stores and torn reads
-//! (docs/FINDINGS.md).
+//! ("Findings", docs/LAB_REFERENCE.md).
 #![tactic(auto)]
 
 mod actions;

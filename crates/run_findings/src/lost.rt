@@ -16,7 +16,7 @@ use crate::sources::Sources;
 use std::alloc::{AllocError, Global};
 
 /// That another stream's write was lost: it was stored over by a stream that had read the word before that write and not
-/// since, and computed from this what it stored ("Lost updates", docs/FINDINGS.md). Steps count from 0.
+/// since, and computed from this what it stored ("Lost updates", docs/LAB_REFERENCE.md). Steps count from 0.
 #[derive(Clone, Copy, Debug, PartialEq, Eq)]
 pub struct LostUpdate {
     /// The byte address of the word.

@@ -16,8 +16,8 @@ use crate::stale::{is_load_of, may_tear, stale_looks};
 use std::alloc::{AllocError, Global};
 
 /// That a stream read two words on both sides of another stream's change of both, one before it was written, the other
-/// after, and that this pair was never there at one moment, or is used as one ("Torn reads", docs/FINDINGS.md). Steps
-/// count from 0.
+/// after, and that this pair was never there at one moment, or is used as one ("Torn reads", docs/LAB_REFERENCE.md).
+/// Steps count from 0.
 #[derive(Clone, Copy, Debug, PartialEq, Eq)]
 pub struct TornRead {
     /// The byte address of the word that was read before it was written.

@@ -15,7 +15,7 @@ use crate::sources::Sources;
 use std::alloc::{AllocError, Global};
 
 /// That a stream stored over another stream's store of another value, which nobody had read, and that this is not the
-/// store of a lost update ("Unread stores", docs/FINDINGS.md). Steps count from 0.
+/// store of a lost update ("Unread stores", docs/LAB_REFERENCE.md). Steps count from 0.
 #[derive(Clone, Copy, Debug, PartialEq, Eq)]
 pub struct UnreadStore {
     /// The byte address of the word.

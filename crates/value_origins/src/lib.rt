@@ -1,5 +1,5 @@
 //! The steps that a value of a run comes from: which step wrote a register or a word last, and what that step read for it
-//! (docs/FINDINGS.md).
+//! ("Findings", docs/LAB_REFERENCE.md).
 #![tactic(auto)]
 
 mod chains;

@@ -1,5 +1,5 @@
 //! Whole runs, step by step: the views of the steps, and what the steps did to their streams and words, from which
-//! findings are computed (docs/FINDINGS.md).
+//! findings are computed ("Findings", docs/LAB_REFERENCE.md).
 #![tactic(auto)]
 
 mod actions;
