@@ -36,8 +36,8 @@ help:
 	@echo "make draft      builds both programs UNPROVED in out/draft, or the PROGRAMS that are named (some six minutes)"
 	@echo "                cases, documents, spaces, hostile, refuse, pages, editors, recipes and bench run on them with PROGRAM=draft"
 	@echo "make run        proves and builds mta_sim, and shows a first run (49 processor minutes)"
-	@echo "make run-lab    the same of mta_lab (363 processor minutes)"
-	@echo "make test       proves all that is shipped, tries the edits in must-fail/, runs all tests (388 processor minutes from nothing; ANEW=1: nothing that is kept counts)"
+	@echo "make run-lab    the same of mta_lab (369 processor minutes)"
+	@echo "make test       proves all that is shipped, tries the edits in must-fail/, runs all tests (400 processor minutes from nothing; ANEW=1: nothing that is kept counts)"
 	@echo "make prove      proves the CRATES and those that they stand on, as make test does (docs/ARCHITECTURE.md has the minutes of each)"
 	@echo "make checks     what make test tests before any proof (a minute)"
 	@echo "make trust      writes out/TRUST.md, the definitions that a reader has to trust (seconds)"
@@ -52,7 +52,7 @@ help:
 	@echo "make check-dist unpacks them next to nothing but the C library, and runs the examples there (seconds)"
 	@echo "make hostile    hostile use of the built program; needs Python 3 and a C compiler (11 minutes on two cores, with other work)"
 	@echo "make refuse     the part of it that refuses each allocation of the commands in turn (some minutes)"
-	@echo "make spaces     compares mta_lab on 7,000 random programs with a search, and steps, by a machine of the tests' own (some ten minutes)"
+	@echo "make spaces     compares mta_lab on 15,000 random programs with a search, and steps, by a machine of the tests' own; what play says needs Node (some twelve minutes)"
 	@echo "make pages      the pages in a browser; needs chromium, its driver and Python's selenium, and says what is missing (some minutes)"
 	@echo "make editors    the syntax files, asked by the editors that read them; mta_lab lsp by their clients; mta_lab dap by a client that others' library makes. Says what is missing (seconds)"
 	@echo "make recipes    recipes of docs/GRADING.md that take a bare system, a cluster or a spreadsheet: debootstrap's root, Slurm, LibreOffice. Says what is missing (a minute)"
@@ -158,12 +158,18 @@ hostile: built-calls
 	@python3 tests/hostile
 
 # random programs: a search of all states by a machine of the tests' own is compared with what explore, grade and survey
-# say, and with what check warns about; a second reading of what a step did with what view says
+# say, and with what check warns about; a second reading of what a step did with what view and play say. What play says
+# takes Node, and comes last
 spaces: built
 	@python3 tests/spaces
 	@python3 tests/spaces/slips.py
+	@python3 tests/spaces/text_slips.py
 	@python3 tests/spaces/sentences.py
+	@python3 tests/spaces/loops.py
 	@python3 tests/spaces/starving.py
+	@python3 tests/spaces/leading.py
+	@python3 tests/spaces/overtaking.py
+	@python3 tests/spaces/said_by_play.py
 
 # what Vim, Neovim, Emacs, Pygments and pandoc take each part of a source text for; then what the clients of Neovim, Emacs and
 # VS Code show of mta_lab lsp, and mta_lab dap by a client of the Debug Adapter Protocol on a library that others wrote

@@ -131,6 +131,8 @@ searches() {
     search "$work/longer_$name.asm"
   done
   for name in lock fetch_add readers_writer; do search "examples/$name.asm" --plain; done
+  # (who can wait forever: two that poll, three with tickets, readers and writers)
+  for name in peterson tickets writers_first; do search "tests/cases/lab_waiting/$name.asm" --waiting; done
   for name in lock fetch_add; do play "examples/$name.asm"; done
 }
 

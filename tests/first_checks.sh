@@ -1,7 +1,8 @@
 #!/usr/bin/env bash
-# What can be seen before any proof, in seconds: the layout of code and definitions, texts that speak of what a reader has
-# not, links, headings that are cited, the kit's identity and the promises that README.md names, the version, the names of
-# wrong bodies, those that editors know, and that each must-fail edit can be applied. A line says what is not so; the last one counts the checks.
+# What can be seen before any proof, in seconds: the layout of code and definitions, files that no module names, texts that
+# speak of what a reader has not, links, headings that are cited, the kit's identity and the promises that README.md names,
+# the version, the names of wrong bodies, those that editors know, and that each must-fail edit can be applied. A line says
+# what is not so; the last one counts the checks.
 set -u
 cd "$(dirname "$0")/.." || exit 1
 room=$(mktemp -d)
@@ -67,6 +68,16 @@ kit() {
   local logic
   logic=$(rt version | sed -n 's/^.* \(logic [0-9a-f]*\)$/\1/p')
   grep -qF "\`$logic\`" README.md || echo "rt version says '$(rt version)', and README.md names another logic"
+}
+
+# modules: each file of definitions and of lemmas is named by its crate's Lib.antt; the prover refuses one that is not, after
+# all below its crate is proved
+modules() {
+  local file name
+  for file in crates/*/specs/*.antt crates/*/proofs/*.antt; do
+    name=$(basename "$file" .antt)
+    [ "$name" = Lib ] || grep -qxE "(pub )?mod $name" "$(dirname "$file")/Lib.antt" || echo "$file: no line 'mod $name' in Lib.antt"
+  done
 }
 
 # version: that of each program and of the editors' extension is the newest of CHANGELOG.md, and so are those in the names
@@ -153,6 +164,7 @@ check "another logic" kit
 check "versions" version
 check "crates without a line" described
 check "the table of crates" python3 tests/crates.py check
+check "files of a crate that its Lib.antt does not name" modules
 check "documents of crates" about_crates
 check "wrong bodies without a name" wrong_bodies
 check "the operation table, in docs/MACHINE.md (<) and in Row.antt (>)" operation_table

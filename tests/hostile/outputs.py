@@ -322,7 +322,8 @@ def at_once(tally, folder):
     for number in range(ROUNDS):
         if number % 2:
             os.unlink(path)
-        running = [subprocess.Popen([LAB, *commands[it % 2]], stderr=subprocess.PIPE) for it in range(WRITERS)]
+        running = [subprocess.Popen([LAB, *commands[it % 2]], stdout=subprocess.PIPE, stderr=subprocess.PIPE)
+                   for it in range(WRITERS)]
         said = [process.communicate()[1] for process in running]
         tally.runs += WRITERS
         tally.check(f"some at once: {said}", [process.returncode for process in running] == [0] * WRITERS)

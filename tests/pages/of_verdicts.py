@@ -21,6 +21,14 @@ ADDS = ("LOAD.N r1, r0, 0", "ADD r1, r1, 1", "STORE.N r1, r0, 0", "QUIT")
 POLLS = ("LOAD.N r1, r0, 0", "ADD.T r2, r1, 0", "SKIP EQ, 0, -3", "QUIT")
 POLLS_BY_ONE = ("LOAD.N r1, r0, 0 | LTU.T r2, r1, 1 | SKIP NE, 0, -1", "QUIT")
 TAKES = ("LOAD.S r1, r0, 0", "QUIT")
+LOOPS = ("SKIP ALWAYS, 0, -1",)
+# takes the word, stores it again, and so on
+LOCKS = ("LOAD.S r1, r0, 0", "STORE.S r1, r0, 0", "SKIP ALWAYS, 0, -3")
+# two steps again and again
+TURNS = ("ADD r1, r0, 1", "SKIP ALWAYS, 0, -2")
+# 1.0 is never there
+NOWHERE = "0.0 in one leads to 1.0 in one"
+OVERTAKEN = "0.0 in one is overtaken at most 1 times by 1.0 at two+1"
 KNOWN = "This page knows every schedule"
 WORK = "each of 0.0 1.0 writes word 0"
 LEAST = "at least 2 streams store to words 0..0"
@@ -44,6 +52,26 @@ LEADS = {
     "takes": (two(TAKES, STORES, ".retry 3\n.data 0, 0"), "finished", "", "there is", ""),
     "waits": (two(TAKES, STORES, ".data 0, 0"), "finished", "", "there is",
               "Every schedule ends right: you can\u2019t break it."),
+    # what loops as it may has no end that would be right: only its loops are
+    "loops": (two(LOOPS, ("QUIT",)), "loops\nword 0 0", "", "there is", "No schedule ends: each runs forever, as it may."),
+    "loops_begun": (two(LOOPS, ("QUIT",)), "loops", "1 0 1\n", "that begins so",
+                    "No schedule that begins so ends: each runs forever, as it may."),
+    "loops_unjudged": (two(LOOPS, ("QUIT",)), f"loops\n{WORK}", "", "there is",
+                       f"No schedule ends: each runs forever, as it may{NOT_JUDGED}"),
+    # nobody waits, and 0.0 comes to where it quits
+    "loops_kept": (two(LOOPS, ("QUIT",)), "loops\nnever starved", "", "there is",
+                   "No schedule ends: each runs forever, as it may."),
+    "leads_kept": (two(STORES, STORES), "word 0 1\n0.0 in one leads to 0.0 in one+2", "", "there is",
+                   "Every schedule ends right: you can\u2019t break it."),
+    "leads_nowhere": (two(STORES, STORES), f"word 0 1\n{NOWHERE}", "", "there is",
+                      f"Every schedule ends right. Not every run keeps \u201c{NOWHERE}\u201d."),
+    "leads_begun": (two(STORES, STORES), f"word 0 1\n{NOWHERE}\n{WORK}", "1 0 1\n", "that begins so",
+                    f"Every schedule that begins so ends right{NOT_JUDGED} Not every run that begins so keeps "
+                    f"\u201c{NOWHERE}\u201d."),
+    "leads_alone": (two(LOOPS, ("QUIT",)), "0.0 in one leads to 0.0 in one", "", "there is", "No schedule ends right."),
+    "starved": (two(TAKES, LOOPS, ".data 0, 0"), "loops\nnever starved", "", "there is",
+                "No schedule ends: each runs forever, as it may. Not every run keeps \u201cnever starved\u201d."),
+    "loops_polls": (two(POLLS, STORES), "loops\nword 0 1", "", "there is", "Every schedule that ends, ends right."),
     "wrong": (two(ADDS, ADDS), "word 0 3", "", "there is", "No schedule ends right (expected: \u201cword 0 3\u201d)."),
     "begun_wrong": (two(ADDS, ADDS), "word 0 2", "0 0 1\n1 0 1\n", "that begins so",
                     "No schedule that begins so ends right (expected: \u201cword 0 2\u201d)."),
@@ -87,6 +115,8 @@ def leads(page):
         tally.check(f"{name}: what holds of all schedules", lead.endswith(f". {wanted}" if wanted else "s."), lead)
         said = re.findall(r"(?:any|[Ee]very|[Nn]o) schedule (?!that begins so)\S+(?: \S+){3}", page.script(TEXTS))
         tally.check(f"{name}: no other text says more", not begin or not said, said)
+        counted = re.findall(r"[Aa]ll 1 .*|[Ff]irst 1 .*|\b1 steps? that are .*", page.script(TEXTS))
+        tally.check(f"{name}: of one thing it speaks as of one", not counted, counted)
         page.quiet(f"{name}: all schedules")
 
 
@@ -134,6 +164,47 @@ def judged(page):
     result = page.text("#result")
     tally.check("given_finding: how its steps are counted",
                 "count from the program\u2019s start, 1 step before yours" in result, result)
+
+
+# what is expected of a program, and of each line about runs what is said at the end of a run that does not keep it, how
+# many steps this takes at least, and how many the last ones repeat; None if all runs keep it
+SHOWN_RUNS = {
+    "stops": (two(STORES, STORES), f"word 0 1\n{NOWHERE}\n0.0 in one leads to 0.0 in one+1",
+              {NOWHERE: ("no stream has to go on from here", 6), "0.0 in one leads to 0.0 in one+1": None}),
+    "stands": (two(TAKES, LOOPS, ".data 0, 0"), "loops\nnever starved",
+               {"never starved": ("steps that change nothing can be taken again and again", 0)}),
+    # r1 is 0 before the first of its steps, and 1 after it
+    "turns": (two(TAKES, TURNS, ".data 0, 0"), "loops\nnever starved",
+              {"never starved": ("the last 2 steps can be taken again and again", 3)}),
+    # 1.0 comes in twice while 0.0 stands where it asks
+    "overtaken": (two(LOCKS, LOCKS), f"loops\nnever starved\n{OVERTAKEN}",
+                  {"never starved": None, OVERTAKEN: ("that is so whatever follows", 4)}),
+}
+# shows the run of each line that not all runs keep, and gives what is said at its end, and how many steps it has
+SHOWN = """
+  return unkeptLines.map((one) => {
+    showRun(one);
+    stop();
+    goTo(way.length);
+    return [one.line, document.getElementById("told").textContent, way.length];
+  });
+"""
+
+
+def lines_of_runs(page):
+    """Which lines about runs are kept, and the runs that do not keep them."""
+    for name, (text, expected, lines) in SHOWN_RUNS.items():
+        opened(page, f"runs_{name}", text, expected)
+        kept = page.script("return data.runs.map((one) => [one.line, one.kept])")
+        tally.same(f"runs_{name}: which are kept", kept, [[line, wanted is None] for line, wanted in lines.items()])
+        rows = page.script("return runNotes().map((one) => one.textContent).join(' ')")
+        tally.same(f"runs_{name}: its rows", rows, "What is said of whole runs: " + "".join(
+            f"\u2713\u201c{line}\u201devery run keeps it" if wanted is None
+            else f"!\u201c{line}\u201dnot every run keeps itShow" for line, wanted in lines.items()))
+        for line, said, steps in page.script(SHOWN):
+            wanted, least = lines[line]
+            tally.check(f"runs_{name}: why it is not kept",
+                        f"\u201c{line}\u201d is not kept: {wanted}." in said and steps >= least, (said, steps))
 
 
 # two ends of the same values, of which one leaves the word full and the other one empty
@@ -190,3 +261,4 @@ def part(page):
     given(page)
     judged(page)
     tagged(page)
+    lines_of_runs(page)

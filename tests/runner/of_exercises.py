@@ -264,7 +264,7 @@ def told(exercise, program, verdict, why, missed):
     lines = [f"exercise {number}, {title_of(exercise)}: {verdict}", f"{path}/start.asm: {first}", *more]
     beginnings = {(row.fields[0], file_of(row.fields[1])): row.fields[2] for row in table.rows("exercises/wrong.tsv")}
     if verdict == "right":
-        last = [] if next_after(exercise) else [f"1 of {len(exercises())} are done."]
+        last = [] if next_after(exercise) else [f"1 of {len(exercises())} is done."]
         return [*lines, *next_after(exercise), *last]
     sentence = beginnings.get((exercise, program))
     lines += [sentence_of(exercise, sentence)] if sentence else []
@@ -318,7 +318,7 @@ def lists(solved, tried):
              for exercise, verdict in verdicts.items()]
     todo = [exercise for exercise in exercises() if exercise not in solved]
     before = max([name for name in exercises() if name < todo[0]], default=None) if todo else exercises()[-1]
-    lines += [f"{len(solved)} of {len(lines)} are done."] + ([] if todo else [ALL_DONE]) + next_after(before)
+    lines += [f"{len(solved)} of {len(lines)} {'is' if len(solved) == 1 else 'are'} done."] + ([] if todo else [ALL_DONE]) + next_after(before)
     return (0, "".join(line + "\n" for line in lines).encode(), b""), (said.status, said.out, said.err)
 
 
@@ -416,7 +416,7 @@ def watches():
                 put(folder, "01_hand_over", program)
             return lab("exercise", number, folder=folder).out
 
-        right = judged("solution.asm") + f"1 of {len(exercises())} are done.\n".encode()
+        right = judged("solution.asm") + f"1 of {len(exercises())} is done.\n".encode()
         wrong = judged("wrong/looks_at_once.asm")
         path = "exercises/02_counter"
         second = f"{path}/task.md says what to do in {path}/start.asm\n".encode() + judged(None, "2")

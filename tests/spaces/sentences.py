@@ -275,6 +275,18 @@ def tried(seed, mta_lab):
     return seed, faults[:3], text.decode(), ["; ".join(parts) for _, parts in wanted]
 
 
+def kinds_of(said):
+    """How many of some sentences are of each kind."""
+    return {kind: sum(any(re.search(kind, part) for part in one.split("; ")) for one in said) for kind in KINDS}
+
+
+def rare_kinds(counts, programs, but=()):
+    """How many kinds of sentences come too seldom in so many programs, but for these; says which."""
+    rare = [kind for kind in KINDS if kind not in but and counts[kind] * 2000 < LEAST * programs]
+    print("".join(f"not so: {kind!r} is said {counts[kind]} times: too few to try it\n" for kind in rare), end="")
+    return len(rare)
+
+
 def main():
     asked = argparse.ArgumentParser(description=__doc__.partition("\n\n")[0])
     asked.add_argument("--programs", type=int, default=2000, help="how many (2000)")
@@ -288,14 +300,12 @@ def main():
     with concurrent.futures.ProcessPoolExecutor(asked.jobs) as pool:
         for seed, found, text, said in pool.map(tried, seeds, [asked.program] * len(seeds), chunksize=20):
             steps += len(said)
-            for kind in KINDS:
-                counts[kind] += sum(any(re.search(kind, part) for part in one.split("; ")) for one in said)
+            counts.update(kinds_of(said))
             wrong += bool(found)
             if found and wrong <= SHOWN:
                 print(f"seed {seed}:\n{text}" + "".join(f"not so: {what}\n" for what in found), flush=True)
-    rare = [kind for kind in KINDS if counts[kind] * 2000 < LEAST * len(seeds)]
-    print("".join(f"not so: {kind!r} is said {counts[kind]} times: too few to try it\n" for kind in rare), end="")
-    print(f"{steps} steps: {len(seeds) - wrong} passed, {wrong + len(rare)} failed")
+    rare = rare_kinds(counts, len(seeds))
+    print(f"{steps} steps: {len(seeds) - wrong} passed, {wrong + rare} failed")
     sys.exit(1 if wrong or rare else 0)
 
 

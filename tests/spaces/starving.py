@@ -1,12 +1,12 @@
 #!/usr/bin/env python3
 """Random programs with loops: who can wait forever by `mta_lab explore --waiting`, beside a plain search of rounds by a
 machine of the tests' own (lassos.py). Each stream that is shown has to be one that the search finds, and each that the search
-finds has to be shown. With the line `never starved` the same streams are shown, and a program is right only if there is none.
-Without both they are shown if the program has an endless loop, which is called a livelock just if no word changes in it. Each
-schedule and round that is shown is replayed: the round has to come back, to be fair, and to leave the stream waiting, and no
-schedule to its world may be shorter. Each is run by `mta_sim` too, the round once and twice. And `view --round` has to mark as a
-round just those last steps of a kept schedule that are one by this machine. A difference is printed with its seed and its
-program. Needs Python 3.
+finds has to be shown. Of a third of the programs a file of expectations lets streams rest. With the line `never starved` the same
+streams are shown, and a program is right only if there is none. Without both they are shown if the program has an endless loop,
+which is called a livelock just if no word changes in it. Each schedule and round that is shown is replayed: the round has to come
+back, to be fair, and to leave the stream waiting, and no schedule to its world may be shorter. Each is run by `mta_sim` too, the
+round once and twice. And `view --round` has to mark as a round just those last steps of a kept schedule that are one by this
+machine. A difference is printed with its seed and its program. Needs Python 3.
 
   starving [--programs N] [--first SEED] [--jobs N] [--program PATH] [--machine PATH]
 
@@ -29,6 +29,7 @@ import tempfile
 
 import machine
 import programs
+import resting
 import search
 from lassos import Lassos
 from machine import NO_HANDLER, Program, Word
@@ -85,7 +86,8 @@ class Case:
                 break
         else:
             raise ValueError(f"seed {seed}: no program of {LEAST} to {MOST} worlds")
-        self.lassos = Lassos(self.space)
+        self.rests, _, self.lines = resting.drawn(seed, self.made.program)
+        self.lassos = Lassos(self.space, self.rests)
         self.wanted = {name_of(stream) for stream in self.lassos.starving()}
 
     def status(self, waiting=search.ENDLESS):
@@ -100,17 +102,24 @@ class Case:
         path = os.path.join(folder, "s.asm")
         with open(path, "wb") as file:
             file.write(self.made.text)
-        ended = call(asked.program, "explore", "--waiting", "--json", "--keep", os.path.join(folder, "kept"), path)
+        given = self.lines_in(folder)
+        ended = call(asked.program, "explore", "--waiting", "--json", "--keep", os.path.join(folder, "kept"), path, *given)
         objects = [json.loads(line) for line in ended.stdout.splitlines()]
-        said, = (it for it in objects if it["object"] == "waiting")
+        said = next((it for it in objects if it["object"] == "waiting"), None)
+        if said is None:
+            yield f"nothing is said of who can wait forever: {ended.stderr}"
+            return
         shown = {it["stream"]: it for it in objects if it["object"] == "starving"}
         if (said["decided"], said["why"], said["undecided"]) != (True, None, []):
             yield f"not decided: {said}"
         if set(shown) != self.wanted or said["nobody"] == bool(self.wanted):
             yield f"{sorted(shown)} can wait forever, and by the search {sorted(self.wanted)}"
         running = {name for it in objects if it["object"] == "search_end" for name in it["running"]}
-        if set(said["going"]) != running - self.wanted or len(set(said["going"])) < len(said["going"]):
-            yield f"{said['going']} go on in every round, and not {sorted(running - self.wanted)}"
+        going, may_rest = said["going"], {name_of(stream) for stream, _ in self.rests}
+        if set(going) - may_rest != running - self.wanted - may_rest or not set(going) <= running - self.wanted:
+            yield f"{going} go on in every round, and not {sorted(running - self.wanted)}"
+        if len(set(going)) < len(going):
+            yield f"{going} go on in every round, one of them twice"
         if ended.returncode != self.status():
             yield f"status {ended.returncode}, and not {self.status()}"
         for name, it in shown.items():
@@ -118,21 +127,34 @@ class Case:
             yield from self.run_twice(asked, folder, path, name)
             yield from self.not_as_marked(asked, folder, path, it)
         yield from self.not_as_required(asked, folder, path)
-        yield from self.not_as_loops(asked, path)
+        yield from self.not_as_loops(asked, path, given)
 
-    def not_as_loops(self, asked, path):
+    def lines_in(self, folder):
+        """Words of a call for a file of expectations that lets streams rest; none where nobody may."""
+        if not self.lines:
+            return []
+        path = os.path.join(folder, "rests.expect")
+        with open(path, "w", encoding="ascii") as file:
+            file.write("".join(line + "\n" for line in self.lines))
+        return ["--expect", path]
+
+    def nobody(self):
+        """The line that says that nobody can wait forever."""
+        return NOBODY + " where it may not rest" * bool(self.lines)
+
+    def not_as_loops(self, asked, path, given):
         """What is said of the program's endless loops that is not so, where nothing is asked."""
         loops = self.space.spinning()
         still = [len({world.memory for world in found}) == 1 for found in loops]
         for words in ((), ("--plain",)):
-            ended = call(asked.program, "explore", path, *words)
+            ended = call(asked.program, "explore", path, *given, *words)
             lines = ended.stdout.decode().splitlines()
             spinning = sum(" spinning in " in line for line in lines)
             livelocks = sum(line.strip() == LIVELOCK for line in lines)
             if bool(livelocks) != any(still) or (livelocks == spinning) != all(still):
                 yield f"{livelocks} livelocks in {spinning} lines, and of the sets {still}"
             shown = {found[1] for found in map(WAITS.match, lines) if found}
-            if shown != (self.wanted if loops else set()) or (NOBODY in lines) != (bool(loops) and not self.wanted):
+            if shown != (self.wanted if loops else set()) or (self.nobody() in lines) != (bool(loops) and not self.wanted):
                 yield f"without an option {sorted(shown)} can wait forever, and by the search {sorted(self.wanted)}"
             if ended.returncode != self.status(search.DONE):
                 yield f"without an option: status {ended.returncode}, and not {self.status(search.DONE)}"
@@ -140,8 +162,8 @@ class Case:
     def not_as_required(self, asked, folder, path):
         """What is said of the program that is not so, where it is required that nobody can wait forever."""
         line = os.path.join(folder, "s.expect")
-        with open(line, "wb") as file:
-            file.write(b"never starved\n")
+        with open(line, "w", encoding="ascii") as file:
+            file.write("".join(text + "\n" for text in ["never starved", *self.lines]))
         ended = call(asked.program, "explore", "--json", "--expect", line, path)
         objects = [json.loads(it) for it in ended.stdout.splitlines()]
         broken = [it["claim"] for it in objects if it["object"] == "broken"]

@@ -19,6 +19,9 @@ const HUGE: &str = ".slim 1\n.entry 0\nQUIT\n.data 0x8000000000000000\n.data 0x8
 /// A source, how many steps are taken, a text of expectations, and which of them is the first that is not met.
 type Row = (&'static str, usize, &'static str, Option<usize>);
 
+/// A text, the line of its fault, the word there, from 0, and what is wrong with it.
+pub(crate) type FaultRow = (&'static str, usize, usize, LineFaultKind);
+
 const ROWS: [Row; 30] = [
     (
         STOPPING,
@@ -82,9 +85,8 @@ const ROWS: [Row; 30] = [
     (STOPPING, 1, "waits 0.0 in 1..1", None),
 ];
 
-/// A text that has a fault, its line, and what it is.
-/// A text, the line of its fault, the word there, from 0, and what is wrong with it. The program is `QUITTING`.
-const FAULTS: [(&str, usize, usize, LineFaultKind); 79] = [
+/// Texts for the program `QUITTING`.
+const FAULTS: [FaultRow; 80] = [
     (
         "finished\nword 8",
         2,
@@ -125,6 +127,7 @@ const FAULTS: [(&str, usize, usize, LineFaultKind); 79] = [
         0,
         LineFaultKind::Form(LineForm::Waits),
     ),
+    ("0.0 in 0", 1, 0, LineFaultKind::Unknown),
     ("loops 1", 1, 0, LineFaultKind::Form(LineForm::Loops)),
     ("points 1001", 1, 1, LineFaultKind::Worth),
     ("points -1", 1, 1, LineFaultKind::Worth),
@@ -284,7 +287,11 @@ fn machine_after(alloc: Global, image: &Image, steps: usize) -> Option<Machine<8
 }
 
 /// What a text requires of a program, by addresses alone.
-fn required_by(alloc: Global, image: &Image, text: &str) -> Result<Requirements, FileFault> {
+pub(crate) fn required_by(
+    alloc: Global,
+    image: &Image,
+    text: &str,
+) -> Result<Requirements, FileFault> {
     let known = KnownNames {
         words: &[],
         labels: &[],
@@ -315,16 +322,17 @@ fn are_judged(rt: HostRuntime) {
     assert!(rt; first_misjudged(rt.alloc(), &ROWS).is_none());
 }
 
-/// The fault of a text.
-fn fault_of(alloc: Global, text: &str) -> Option<FileFault> {
-    let image = image_of(alloc, QUITTING)?;
+/// The fault of a text for a program.
+fn fault_of(alloc: Global, source: &str, text: &str) -> Option<FileFault> {
+    let image = image_of(alloc, source)?;
     required_by(alloc, &image, text).err()
 }
 
 /// The first of the texts that has another fault.
-fn first_with_another(
+pub(crate) fn first_with_another(
     alloc: Global,
-    faults: &[(&'static str, usize, usize, LineFaultKind)],
+    source: &str,
+    faults: &[FaultRow],
 ) -> Option<usize> {
     for (number, (text, line, word, kind)) in faults.iter().enumerate() {
         let fault = LineFault {
@@ -332,7 +340,7 @@ fn first_with_another(
             kind: *kind,
         };
         let wanted = FileFault::Line { line: *line, fault };
-        if fault_of(alloc, text) != Some(wanted) {
+        if fault_of(alloc, source, text) != Some(wanted) {
             return Some(number);
         }
     }
@@ -341,13 +349,13 @@ fn first_with_another(
 
 #[test]
 fn have_faults(rt: HostRuntime) {
-    assert!(rt; first_with_another(rt.alloc(), &FAULTS).is_none());
+    assert!(rt; first_with_another(rt.alloc(), QUITTING, &FAULTS).is_none());
 }
 
 #[test]
 fn say_nothing(rt: HostRuntime) {
     for text in EMPTY {
-        assert!(rt; fault_of(rt.alloc(), text) == Some(FileFault::Empty));
+        assert!(rt; fault_of(rt.alloc(), QUITTING, text) == Some(FileFault::Empty));
     }
 }
 

@@ -40,6 +40,8 @@ mod registers;
 #[cfg(test)]
 mod replays;
 #[cfg(test)]
+mod run_lines;
+#[cfg(test)]
 mod sources;
 #[cfg(test)]
 mod threads;
