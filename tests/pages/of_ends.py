@@ -128,23 +128,40 @@ def missed(page):
         page.quiet(f"missed_{name}")
 
 
-def allowed(page):
-    """What the page says of streams that wait forever, as they may."""
-    source, schedule = (pathlib.Path(page.folder) / f"allowed.{kind}" for kind in ("asm", "schedule"))
-    source.write_text(program(EMPTY, WAITS))
-    schedule.write_text("0 0 2\n")
-    run = runs.run_of(runs.page_of(page.folder, source, schedule))
-    page.open("allowed", runs.page({**run, "expected": True}))
-    _, heading, _, _ = page.script(SHOWN)
-    tally.same("allowed: it is no deadlock", heading, "0.0 waits forever, as expected")
-    page.quiet("allowed")
+# what the page of a run knows of the end at which these streams are blocked, its title, its sign, and the words below it
+BLOCKED = {
+    "deadlock": (1, {}, "Deadlock: 0.0 waits forever", "deadlock", ""),
+    "not_expected": (2, {"expected": False, "missed": None}, "Deadlock: 0.0 and 1.0 wait forever", "deadlock",
+                     "Not as expected."),
+    "allowed": (1, {"expected": True, "may_wait": True}, "0.0 waits forever, as expected", "finished", "As expected."),
+    # they may wait, and another line is missed
+    "allowed_and_missed": (2, {"expected": False, "missed": "word 8 7", "may_wait": True},
+                           "0.0 and 1.0 wait forever, as they may", "bad", "Not as expected: word 8 7."),
+    # it may wait, and a line is left that the search does not decide
+    "allowed_and_open": (1, {"may_wait": True}, "0.0 waits forever, as it may", "steps", ""),
+}
+
+
+def blocked(page):
+    """What the page says of streams that wait forever: a deadlock, but where the run says that they may wait."""
+    run = runs.sample("philosophers.deadlock")
+    for name, (count, known, title, sign, words) in BLOCKED.items():
+        end = {**run["end"], "kind": "deadlock", "waiting": run["end"]["waiting"][:count], "able": [], "fresh": []}
+        page.open(f"blocked_{name}", runs.page({**run, **known, "end": end}))
+        heading, kind, items = page.script("const head = document.querySelector('h1');"
+                                           "const items = [...document.querySelectorAll('#end li')];"
+                                           "return [head.textContent, head.className, items.map((it) => it.textContent)];")
+        tally.same(f"blocked_{name}: its title", heading, title)
+        tally.same(f"blocked_{name}: its sign", kind, sign)
+        tally.same(f"blocked_{name}: whether it is as expected", items[0] if "xpected" in items[0] else "", words)
+        page.quiet(f"blocked_{name}")
 
 
 def part(page):
+    blocked(page)
     if not runs.has_pages():
         return
     missed(page)
-    allowed(page)
     for name, (text, turns, step, title, drawn) in CASES.items():
         source, schedule = (pathlib.Path(page.folder) / f"{name}.{kind}" for kind in ("asm", "schedule"))
         source.write_text(text)

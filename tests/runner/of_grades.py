@@ -364,6 +364,32 @@ def pages_by_cases():
             yield f"{words}: words", "7", str(data["start"]["memory"][0][1])
 
 
+# two streams that wait forever for a word that nobody fills
+HELD = b""" .slim 1
+ .entry go
+ .entry go
+ .data 0, 0
+ .data 0
+go: LIT r2, 7
+ STORE.N r2, r0, 1
+wait: LOAD.S r1, r0, 0
+ QUIT
+"""
+
+
+@checks.others("grade/pages_of_waits")
+def pages_of_waits():
+    """Whether the page of a run says that streams may wait at its end, as the file lets none, one or each of them."""
+    with tempfile.TemporaryDirectory(prefix="mta-case-") as folder:
+        made(folder, "held.asm", HELD)
+        for streams, verdict, may_wait in (((), "deadlock", None), (("0.0",), "deadlock", None), (("0.0", "1.0"), "wrong", True)):
+            made(folder, "w.expect", "".join(f"waits {name} in wait..wait\n" for name in streams).encode() + b"word 8 2\n")
+            _, _, objects = paged(folder, "--seeds", "4", "--pages", "out", "held.asm")
+            run = shown(os.path.join(folder, "out", "held.html"))
+            yield f"{streams} may wait", (verdict, "deadlock", False, "word 8 2", may_wait), (
+                objects[0]["verdict"], run["end"]["kind"], *map(run.get, ("expected", "missed", "may_wait")))
+
+
 @checks.others("grade/pages_refused")
 def pages_refused():
     """Graphs that are too large for a page or for the memory that is given, folders that can't be made, and pages that would replace a submission."""

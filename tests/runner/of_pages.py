@@ -129,12 +129,20 @@ def pair_as_compared(source, one, other, *options):
 
 
 BOUNDED = ("grading/submissions/racing.asm", "--plain")
+# one of two streams waits forever, and either may
+HELD = "grading/submissions/never_given_back.asm"
+MAY_WAIT = b"waits 0.0 in count..count\nwaits 1.0 in count..count\n"
 # searches, each by the words behind `explore`, with the file of what is required, if it has one
 SEARCHES = {
     "lock.asm": (("lock.asm",), None),
     "race, judged": (("grading/submissions/racing.asm",), b"word 8 4\nnever word 8 is 3\n"),
     "claim broken on the way": (("grading/submissions/racing.asm",), b"never word 8 is 1\n"),
     "deadlock, judged": (("grading/submissions/never_given_back.asm",), b"word 8 4\n"),
+    "streams may wait": ((HELD,), MAY_WAIT + b"word 8 1\n"),
+    "streams may wait, another line is missed": ((HELD,), MAY_WAIT + b"word 8 4\n"),
+    "streams may wait, a line is not decided": ((HELD,), MAY_WAIT + b"each of 0.0 1.0 writes word 8\n"),
+    "streams may wait where a claim is broken": ((HELD,), MAY_WAIT + b"always at least 2 of 0.0 1.0 in count..count+4\n"),
+    "one of two streams may wait": ((HELD,), b"waits 0.0 in count..count\n"),
     "a stream that loops alone": (("future.asm",), b"never busy\n"),
     "shown by no state": (("grading/submissions/racing.asm",), b"some word 8 is 3\n"),
     "a rule of programs": (("grading/submissions/racing.asm",), b"some word 8 is 3\nrequire FADD\n"),
@@ -153,7 +161,7 @@ OPEN = ("some word 8 is 3", "never busy")
 
 @checks.others("pages/ends")
 def ends():
-    """The page of each end of a search: its name, its steps, and whether the end is as expected."""
+    """The page of each end of a search: its name, its steps, whether the end is as expected, and whether all may wait there."""
     for name, (words, required) in SEARCHES.items():
         yield name, lambda words=words, required=required: pages_of_ends(words, required)
 
@@ -166,9 +174,10 @@ def pages_of_ends(words, required):
         got = {name: run_in(tool.read(os.path.join(made, name)).decode()) for name in sorted(os.listdir(made))}
     ends = [end for end in told if end["object"] == "search_end"]
     whole, is_judged = line_of_the_whole(told), bool(required) and not leaves_a_line(search, told, required)
-    wanted = {f"{number}_{end['end']}.html": judged_as(end, required, whole, is_judged)
+    waiting = [end["schedule"] for end in ends if end["end"] == "waiting"]
+    wanted = {f"{number}_{end['end']}.html": (*judged_as(end, required, whole, is_judged), end["schedule"] in waiting or None)
               for number, end in enumerate(ends, start=1)}
-    return wanted, {name: (steps_in(run), run.get("expected"), run.get("missed")) for name, run in got.items()}
+    return wanted, {name: (steps_in(run), *map(run.get, ("expected", "missed", "may_wait"))) for name, run in got.items()}
 
 
 # a stream that counts down from 50,000, in 100,002 steps; and one that does so only where it finds a word empty of its 1,

@@ -7,6 +7,7 @@ mod findings;
 mod going_texts;
 mod loop_texts;
 mod space_texts;
+mod waiting_ends;
 
 pub use end_texts::{state_text, state_text_of_run};
 pub use findings::{RunFindings, first_finding, push_findings_of_run};
@@ -18,3 +19,4 @@ pub use space_ends::space;
 pub use space_texts::{
     BrokenLine, EndWords, broken_line, text_of_end, words_of_end, words_of_ends,
 };
+pub use waiting_ends::may_wait_at_end;

@@ -4,7 +4,8 @@ use crate::evading_text::EvadingProgram;
 use crate::written_files::WrittenFiles;
 use expectation_files::{NEVER_BUSY, NEVER_STARVED, Requirements, WrittenLine};
 use plain_text::stem_of;
-use replay_page::{MOST_STEPS, RunNames, RunVerdict, page_of_run};
+use replay_page::{JudgedRun, MOST_STEPS, RunNames, RunVerdict, page_of_run};
+use search_texts::ends_in_words::may_wait_at_end;
 use search_texts::parts::{Inputs, LabFault, Program};
 use search_texts::push_expected;
 use search_texts::searches::endless::EndlessWaits;
@@ -76,13 +77,17 @@ impl<'a> FoundProgram<'a> {
             program: stem_of(self.path),
             schedule: &schedule,
         };
-        let verdict = self.verdict_of(end, &missed);
+        let image = &self.program.image;
+        let judged = JudgedRun {
+            verdict: self.verdict_of(end, &missed),
+            may_wait: may_wait_at_end(alloc, image, self.required, &end.schedule)?,
+        };
         page_of_run(
             alloc,
             names,
-            verdict,
+            judged,
             &self.program.text,
-            &self.program.image,
+            image,
             &end.schedule,
         )
     }

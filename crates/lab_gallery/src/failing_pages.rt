@@ -64,7 +64,14 @@ fn page_of_run(alloc: Global, shown: ShownFailing<'_>) -> Result<Result<String, 
     let verdict = RunVerdict::NotExpected {
         missed: shown.missed,
     };
-    match replay_page(alloc, names, verdict, shown.program, shown.steps)? {
+    match replay_page(
+        alloc,
+        names,
+        verdict,
+        shown.program,
+        shown.required,
+        shown.steps,
+    )? {
         Some(page) => Ok(Ok(page)),
         None => no_page(alloc, "the run has more steps than a page shows"),
     }

@@ -69,7 +69,14 @@ impl ShownProgram<'_> {
             program: self.called,
             schedule: self.schedule,
         };
-        replay_page(alloc, names, self.verdict, self.program, self.steps)
+        replay_page(
+            alloc,
+            names,
+            self.verdict,
+            self.program,
+            self.required,
+            self.steps,
+        )
     }
 }
 

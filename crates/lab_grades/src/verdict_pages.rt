@@ -3,10 +3,11 @@
 use crate::option_sums::asked_by;
 use lab_requests::{Bounds, MOST_PLAYED, Maker};
 use processor::Step;
+use program_pages::expected::Requirements;
 use program_pages::searches::Console;
 use program_pages::{PlayPage, PlayedProgram, page_bounds, play_page, replay_page};
 use replay_page::{RunNames, RunVerdict};
-use result_lines::judges::{Case, Witness, required_by};
+use result_lines::judges::{Witness, required_by};
 use result_lines::reports::{CaseRow, GradeRow, case_for_student};
 use std::alloc::{AllocError, Global};
 use std::io::Write;
@@ -40,10 +41,13 @@ pub(crate) fn page_of_row<C: Clock, E: Write>(
     }
     let given = given_by(alloc, case, program)?;
     let program = given.as_ref().unwrap_or(program);
+    let Ok(required) = required_by(alloc, case, &program.image, &program.text) else {
+        return Ok(None);
+    };
     let shown = ShownProgram {
         called,
         program,
-        case,
+        required: &required,
     };
     page_by_case(alloc, grading, shown, row, console)
 }
@@ -55,8 +59,8 @@ struct ShownProgram<'a> {
     called: &'a str,
     /// The program.
     program: &'a Program,
-    /// The case.
-    case: &'a Case,
+    /// What the case requires of it.
+    required: &'a Requirements,
 }
 
 /// Its page.
@@ -103,7 +107,8 @@ fn page_of_steps(
         program: shown.called,
         schedule,
     };
-    replay_page(alloc, names, page_verdict_of(row), shown.program, steps)
+    let verdict = page_verdict_of(row);
+    replay_page(alloc, names, verdict, shown.program, shown.required, steps)
 }
 
 /// How a page says that the run is not right: by the line that it misses, where one says it.
@@ -122,15 +127,11 @@ fn page_of_all<C: Clock, E: Write>(
     console: &mut Console<'_, C, E>,
 ) -> Result<Option<String>, LabFault> {
     let names = ProgramNames::of(alloc, &shown.program.text)?;
-    let program = shown.program;
-    let Ok(required) = required_by(alloc, shown.case, &program.image, &program.text) else {
-        return Ok(None);
-    };
     let played = PlayedProgram {
         called: shown.called,
         program: shown.program,
         names: &names,
-        required: &required,
+        required: shown.required,
         opened: steps,
     };
     match play_page(alloc, &played, bounds_of_page(grading), console)? {

@@ -8,8 +8,8 @@ use lab_requests::{Maker, PageRequest, RunChoice};
 use plain_text::{file_name, stem_of};
 use processor::Step;
 use replay_page::{
-    MOST_STEPS, MOST_STEPS_OF_TWO, MarkedRound, PairNames, RunNames, RunVerdict, page_of_pair,
-    page_of_round, page_of_run,
+    JudgedRun, MOST_STEPS, MOST_STEPS_OF_TWO, MarkedRound, PairNames, RunNames, RunVerdict,
+    page_of_pair, page_of_round, page_of_run,
 };
 use std::alloc::{AllocError, Global};
 use std::io::Read;
@@ -50,11 +50,14 @@ fn page_text<F: Files, R: Read>(
 /// The page of a run that is shown.
 fn run_text(alloc: Global, names: RunNames<'_>, run: &RunToShow) -> Result<String, AllocError> {
     let program = &run.program;
-    let verdict = RunVerdict::NotJudged;
+    let judged = JudgedRun {
+        verdict: RunVerdict::NotJudged,
+        may_wait: false,
+    };
     page_of_run(
         alloc,
         names,
-        verdict,
+        judged,
         &program.text,
         &program.image,
         &run.steps,

@@ -8,6 +8,7 @@ mod replays;
 mod run_lines;
 mod unmade_pages;
 
+pub use expectation_files as expected;
 pub use play_pages::{PlayPage, page_of_schedules, play_page};
 pub use played_programs::{PageChoices, PlayedProgram, page_bounds};
 pub use replays::replay_page;

@@ -26,7 +26,7 @@ pub use parts::{
     push_values_script,
 };
 pub use pictures::picture_of;
-pub use run_verdicts::RunVerdict;
+pub use run_verdicts::{JudgedRun, RunVerdict};
 pub use runs::{PairNames, RunNames};
 pub use waits::{RunWait, run_waits};
 pub use whole_pages::{page_of_pair, page_of_round, page_of_run};

@@ -2,7 +2,7 @@
 
 use crate::marked_rounds::MarkedRound;
 use crate::origins::push_origins;
-use crate::run_verdicts::RunVerdict;
+use crate::run_verdicts::JudgedRun;
 use crate::waits::RunWait;
 use crate::whole_run::WholeRun;
 use image_file::Image;
@@ -45,13 +45,13 @@ pub struct PairNames<'a> {
 pub(crate) fn run_json<const S: usize>(
     alloc: Global,
     names: RunNames,
-    verdict: RunVerdict<'_>,
+    judged: JudgedRun<'_>,
     text: &[u8],
     start: &Machine<'_, S>,
     schedule: &[Step],
 ) -> Result<String, AllocError> {
     let mut json = open_run(alloc, names, text, start, schedule)?;
-    verdict.push_members(alloc, &mut json)?;
+    judged.push_members(alloc, &mut json)?;
     json.push_str("}\n")?;
     Ok(json)
 }

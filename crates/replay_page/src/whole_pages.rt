@@ -2,7 +2,7 @@
 
 use crate::marked_rounds::MarkedRound;
 use crate::pages::{page_of, pair_page_of};
-use crate::run_verdicts::RunVerdict;
+use crate::run_verdicts::JudgedRun;
 use crate::runs::{PairNames, RunNames, both_names, pair_json, round_json, run_json};
 use image_file::Image;
 use image_machines::{by_room, loaded};
@@ -14,12 +14,12 @@ use std::alloc::{AllocError, Global};
 pub fn page_of_run(
     alloc: Global,
     names: RunNames,
-    verdict: RunVerdict<'_>,
+    judged: JudgedRun<'_>,
     text: &[u8],
     image: &Image,
     schedule: &[Step],
 ) -> Result<String, AllocError> {
-    let json = by_room!(image, run_on(alloc, names, verdict, text, image, schedule))?;
+    let json = by_room!(image, run_on(alloc, names, judged, text, image, schedule))?;
     let title = title_of(alloc, names.program, names.schedule)?;
     page_of(alloc, &title, &json)
 }
@@ -56,13 +56,13 @@ pub fn page_of_pair(
 fn run_on<const S: usize>(
     alloc: Global,
     names: RunNames,
-    verdict: RunVerdict<'_>,
+    judged: JudgedRun<'_>,
     text: &[u8],
     image: &Image,
     schedule: &[Step],
 ) -> Result<String, AllocError> {
     let machine = loaded::<S>(alloc, image)?;
-    run_json(alloc, names, verdict, text, &machine, schedule)
+    run_json(alloc, names, judged, text, &machine, schedule)
 }
 
 /// The JSON of a run with a round, on a machine with room for `S` streams a processor.

@@ -13,8 +13,8 @@ const ROWS_MOST = 6; // of waits that are drawn without a circle
 /** Who can't go on unless another one does. */
 const stuckAtEnd = () => run.end.waiting.map((wait) => wait.stream).filter((id) => !atEnd.able.has(id));
 const begunAtEnd = () => run.end.able.filter((id) => !run.end.fresh.includes(id));
-/** Whether each stream that runs may wait where it stands, as a line of the expectations says: then it is no deadlock. */
-const mayWait = () => run.end.kind === "deadlock" && run.expected === true;
+/** Whether each stream that runs may wait where it stands, as lines of the expectations say: then it is no deadlock. */
+const mayWait = () => run.may_wait === true;
 const isDeadlock = () => run.end.kind === "deadlock" && !mayWait();
 /** Whether nobody who has begun can go on. No deadlock, as long as one that has not begun could free another. */
 const isHeldUp = () => stuckAtEnd().length > 0 && begunAtEnd().length === 0;
@@ -40,6 +40,8 @@ function waitersFor(circle) {
 }
 
 const waitOrWaits = (ids) => `wait${ids.length > 1 ? "" : "s"}`;
+/** That streams wait as they may: as expected, if all else is so too. */
+const asTheyMay = (ids) => (run.expected ? "as expected" : `as ${ids.length > 1 ? "they" : "it"} may`);
 
 /** Who else waits at a deadlock with a circle: for a stream of it, or for something else. */
 function waitsBeside(circle) {
@@ -56,7 +58,7 @@ function waitsTitle() {
   const circle = circleAtEnd();
   if (circle.length) return `Deadlock: ${andMore(circle)} wait for each other in a circle${waitsBeside(circle)}`;
   const waits = `${andMore(stuckAtEnd())} ${waitOrWaits(stuckAtEnd())}`;
-  if (mayWait()) return `${waits} forever, as expected`;
+  if (mayWait()) return `${waits} forever, ${asTheyMay(stuckAtEnd())}`;
   return isDeadlock() ? `Deadlock: ${waits} forever` : `${waits}, and no stream that has begun can go on`;
 }
 

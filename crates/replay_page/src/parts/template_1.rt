@@ -5,7 +5,7 @@ pub(crate) const TEXT: &str = r#"<!doctype html>
 <head>
 <meta charset="utf-8">
 <meta http-equiv="Content-Security-Policy"
- content="default-src 'none'; script-src 'sha256-SwR2lc+ejnRoZDC9prtUtaAtCUlMiDNGeXfmR/dKQ+4='; style-src 'sha256-rrOT+5P5hXXGAIq7zARiEOHMf/WXX0TcVp/1qj2+aRQ=';
+ content="default-src 'none'; script-src 'sha256-mHNzUmDfHmSUmteqm8N/uCH2BI1oOJAW3JBGBet4McQ='; style-src 'sha256-rrOT+5P5hXXGAIq7zARiEOHMf/WXX0TcVp/1qj2+aRQ=';
  base-uri 'none'; form-action 'none'">
 <meta name="viewport" content="width=device-width, initial-scale=1">
 <meta name="color-scheme" content="light dark">

@@ -5,7 +5,7 @@ pub(crate) const TEXT: &str = r#"<!doctype html>
 <head>
 <meta charset="utf-8">
 <meta http-equiv="Content-Security-Policy"
- content="default-src 'none'; script-src 'sha256-786G8UGgX4oAWFmQNg6tJUF5QSNGR0Uy5avjUbT6Yt4='; style-src 'sha256-ymwDNMQeiOihZWG4Bgea9yaxtuzcEspZsFdh81HE2Pc=';
+ content="default-src 'none'; script-src 'sha256-+i9o5tZIFTCxSYqTnyWHZ3oWKdYQVNT6c0H9jJ3CtYQ='; style-src 'sha256-ymwDNMQeiOihZWG4Bgea9yaxtuzcEspZsFdh81HE2Pc=';
  base-uri 'none'; form-action 'none'">
 <meta name="viewport" content="width=device-width, initial-scale=1">
 <meta name="color-scheme" content="light dark">
