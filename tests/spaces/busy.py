@@ -1,6 +1,11 @@
-"""Which streams go round alone: their own steps, one of them not blocked, lead from a world back to that very world."""
+"""Which streams go round alone: their own steps, one of them not blocked, lead from a world back to that very world. And which of
+them poll: they read on the way, and ask nothing else of the memory."""
+
+import collections
 
 import machine
+
+READS = ("LOAD", "TAGGET")
 
 
 def round_of(program, world, stream):
@@ -22,3 +27,18 @@ def rounds(space):
     counts = {(world, stream): round_of(space.program, world, stream)
               for world in space.distance for stream in machine.running(world)}
     return {found: count for found, count in counts.items() if count}
+
+
+def polling(space):
+    """The streams that poll, each with the lowest words at which it reads, one of each way round."""
+    found = collections.defaultdict(set)
+    for (world, stream), count in rounds(space).items():
+        asked = []
+        for _ in range(count):
+            at = world.processors[stream[0]].streams[stream[1]].ssw % 2**32
+            if at < len(space.program.words) and space.program.words[at].memory:
+                asked.append((at, space.program.words[at].memory[0]))
+            world, _ = machine.step(space.program, world, *stream)
+        if asked and all(name in READS for _, name in asked):
+            found[stream].add(min(asked)[0])
+    return found

@@ -3,10 +3,10 @@
 machine of the tests' own (lassos.py). Each stream that is shown has to be one that the search finds, and each that the search
 finds has to be shown. Of a third of the programs a file of expectations lets streams rest. With the line `never starved` the same
 streams are shown, and a program is right only if there is none. Without both they are shown if the program has an endless loop,
-which is called a livelock just if no word changes in it. Each schedule and round that is shown is replayed: the round has to come
-back, to be fair, and to leave the stream waiting, and no schedule to its world may be shorter. Each is run by `mta_sim` too, the
-round once and twice. And `view --round` has to mark as a round just those last steps of a kept schedule that are one by this
-machine. A difference is printed with its seed and its program. Needs Python 3.
+which is called a livelock just if no word changes in it, and the streams that poll are named. Each schedule and round that is
+shown is replayed: the round has to come back, to be fair, and to leave the stream waiting, and no schedule to its world may be
+shorter. Each is run by `mta_sim` too, the round once and twice. And `view --round` has to mark as a round just those last steps of
+a kept schedule that are one by this machine. A difference is printed with its seed and its program. Needs Python 3.
 
   starving [--programs N] [--first SEED] [--jobs N] [--program PATH] [--machine PATH]
 
@@ -27,6 +27,7 @@ import re
 import subprocess
 import tempfile
 
+import busy
 import machine
 import programs
 import resting
@@ -47,6 +48,10 @@ OF_ENDS = {"finished": search.DONE, "stopped": search.UNEXPECTED, "deadlock": se
 # what is said of endless loops
 LIVELOCK, NOBODY = "livelock: no step changes a word any more", "fair by words: nobody can be blocked forever"
 WAITS = re.compile(r"fair by words: (\d+\.\d+) can wait forever ")
+# what is said of who polls: each stream with its label, which has the number of its word, and the line that is named
+POLLING = re.compile("(.*): a stream that polls is not blocked; a line (.*) leads to (.*) in PLACES would say whether it gets "
+                     "further")
+POLLS = re.compile(r"(\d+\.\d+) polls at w(\d+)")
 
 
 def looping(chance):
@@ -156,8 +161,22 @@ class Case:
             shown = {found[1] for found in map(WAITS.match, lines) if found}
             if shown != (self.wanted if loops else set()) or (self.nobody() in lines) != (bool(loops) and not self.wanted):
                 yield f"without an option {sorted(shown)} can wait forever, and by the search {sorted(self.wanted)}"
+            yield from self.not_as_polls(lines, bool(loops))
             if ended.returncode != self.status(search.DONE):
                 yield f"without an option: status {ended.returncode}, and not {self.status(search.DONE)}"
+
+    def not_as_polls(self, lines, is_said):
+        """What lines say of who polls that is not so; nothing is to be said where there is no endless loop."""
+        may_rest = {stream for stream, _ in self.rests}
+        polling = {name_of(stream): places for stream, places in busy.polling(self.space).items() if stream not in may_rest}
+        said = [found for found in map(POLLING.fullmatch, lines) if found]
+        shown = [(name, int(place)) for found in said for name, place in POLLS.findall(found[1])]
+        if [name for name, _ in shown] != sorted(polling if is_said else (), key=stream_of) or len(said) > 1:
+            yield f"{shown} poll, and by the search {polling}"
+        elif not all(place in polling[name] for name, place in shown):
+            yield f"{shown} poll, and by the search elsewhere: {polling}"
+        elif shown and (said[0][2], said[0][3]) != ("%s in w%d" % shown[0], shown[0][0]):
+            yield f"a line is named of another stream, or place: {said[0][0]}"
 
     def not_as_required(self, asked, folder, path):
         """What is said of the program that is not so, where it is required that nobody can wait forever."""

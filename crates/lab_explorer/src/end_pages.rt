@@ -1,6 +1,7 @@
 //! The pages of the runs that lead to ends.
 
 use crate::evading_text::EvadingProgram;
+use crate::polling::PollingStream;
 use crate::written_files::WrittenFiles;
 use expectation_files::{NEVER_BUSY, NEVER_STARVED, Requirements, WrittenLine};
 use plain_text::stem_of;
@@ -31,6 +32,8 @@ pub(crate) struct FoundProgram<'a> {
     pub waits: Option<&'a EndlessWaits>,
     /// Whether it was asked, or is required that nobody can: only then it counts for the exit status.
     pub is_waiting_asked: bool,
+    /// Who polls; nobody if it has no answer who can wait forever.
+    pub polling: &'a [PollingStream],
     /// The folder for the schedules, if they are kept.
     pub keep: Option<&'a str>,
 }

@@ -1,5 +1,6 @@
 //! What endless loops of a program are: who can wait forever, who goes on, and whether nothing comes of their steps.
 
+use crate::polling::PollingStream;
 use crate::waiting_objects::push_waits_objects;
 use crate::waiting_text::push_waits_lines;
 use image_file::Image;
@@ -29,6 +30,8 @@ pub(crate) struct WaitingProgram<'a, 't> {
     pub rests: &'a [Rest],
     /// The streams of endless loops that can't, of which that was decided, and which may rest nowhere.
     pub going: &'a [Step],
+    /// The streams that poll, of which no line says whether they get further.
+    pub polling: &'a [PollingStream],
 }
 
 impl WaitingProgram<'_, '_> {
@@ -78,7 +81,7 @@ fn is_never(answer: &StarvingStreams, stream: Step) -> bool {
 }
 
 /// Whether a stream may rest somewhere.
-fn is_of_rest(rests: &[Rest], stream: Step) -> bool {
+pub(crate) fn is_of_rest(rests: &[Rest], stream: Step) -> bool {
     rests.iter().any(|rest| rest.who == stream)
 }
 

@@ -6,6 +6,7 @@ use crate::endless::{WaitingProgram, going_streams, is_livelock, is_spinning};
 use crate::evading_objects::push_evading_objects;
 use crate::evading_text::push_evading_lines;
 use crate::explored_objects::push_objects;
+use crate::polling::open_polling;
 use end_kinds::Status;
 use expectation_files::Requirements;
 use plain_text::{plural, push_plain};
@@ -76,6 +77,7 @@ fn push_waits(
     };
     let rests = shown.required.rests();
     let going = going_streams(alloc, shown.found, waits, rests)?;
+    let polling = open_polling(alloc, shown.polling, shown.required, &shown.found.kept)?;
     let waiting = WaitingProgram {
         names: notation.names,
         image: &shown.program.image,
@@ -84,6 +86,7 @@ fn push_waits(
         waits,
         rests,
         going: &going,
+        polling: &polling,
     };
     waiting.push(alloc, out, is_json)?;
     Ok(waits.status_if(shown.is_waiting_asked))

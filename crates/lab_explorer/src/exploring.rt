@@ -70,7 +70,7 @@ fn show_ends<C: Clock, F: Files, R: Read, E: Write>(
 ) -> Result<CommandAnswer, LabFault> {
     let made = make_folders(alloc, inputs, request);
     let found = every_end(alloc, request, read, console)?;
-    let waits = waits_asked(alloc, request, searched(read), &found, console)?;
+    let asked = waits_asked(alloc, request, searched(read), &found, console)?;
     let notation = Notation {
         names: read.names,
         style: style_of(request.shown),
@@ -80,8 +80,9 @@ fn show_ends<C: Clock, F: Files, R: Read, E: Write>(
         program: read.program,
         required: read.required,
         found: &found,
-        waits: waits_shown(waits.as_ref(), &found),
+        waits: waits_shown(asked.waits.as_ref(), &found),
         is_waiting_asked: request.asks_who_waits || read.required.never_starved().is_some(),
+        polling: &asked.polling,
         keep: request.keep,
     };
     let mut answer = answer_of(alloc, request.shown.json, notation, shown)?;

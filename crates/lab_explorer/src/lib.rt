@@ -12,6 +12,7 @@ mod explored_objects;
 mod explored_text;
 mod exploring;
 mod graphs;
+mod polling;
 mod waiting_files;
 mod waiting_objects;
 mod waiting_text;

@@ -1,6 +1,7 @@
 //! Who can wait forever, in words.
 
 use crate::endless::WaitingProgram;
+use crate::polling::PollingStream;
 use crate::waiting_files::waiting_path;
 use processor::Step;
 use search_texts::parts::texts::{ProgramNames, RunPieces, TextWriter};
@@ -44,6 +45,7 @@ pub(crate) fn push_waits_lines(
             if !waiting.waits.is_nobody() {
                 put_going(&mut out, waiting.going, waiting.begin);
             }
+            put_polling(&mut out, waiting.names, waiting.polling);
         }
     }
     out.give_back(text)
@@ -83,6 +85,32 @@ fn put_going(out: &mut TextWriter, streams: &[Step], begin: usize) {
         0 => "\n",
         _ => ", by a schedule that begins so\n",
     });
+}
+
+/// Adds the streams that poll, where some do, and the line of a file of expectations that says of the first one whether it gets
+/// further.
+fn put_polling(out: &mut TextWriter, names: &ProgramNames<'_>, polling: &[PollingStream]) {
+    let Some(first) = polling.first() else {
+        return;
+    };
+    for (index, found) in polling.iter().enumerate() {
+        out.put(if index == 0 { "" } else { ", " });
+        out.put_stream(found.stream.p, found.stream.s);
+        out.put(" polls at ");
+        names.put_place(out, found.place);
+    }
+    out.put(": a stream that polls is not blocked; a line ");
+    put_stream_in(out, first.stream);
+    names.put_place(out, first.place);
+    out.put(" leads to ");
+    put_stream_in(out, first.stream);
+    out.put("PLACES would say whether it gets further\n");
+}
+
+/// Adds a stream, as a line names it before the places where it stands.
+fn put_stream_in(out: &mut TextWriter, stream: Step) {
+    out.put_stream(stream.p, stream.s);
+    out.put(" in ");
 }
 
 /// Adds a stream that can wait forever: where, for what, by how many steps, and what each stream does in the round.
