@@ -7,3 +7,4 @@ mod BankedCells
 pub mod TwoRequests
 pub mod NoForwards
 pub mod Unchanged
+pub mod TwoAdds

@@ -58,7 +58,7 @@ effect_clear Purge k c v e s = e
 
 -- what a word that was put leaves of the others
 
-put_there : {X : Type 0} (xs : List X) (n : ℕ) (x c : X) → slice_get (set xs n x) n ≡ Some c → c ≡ x
+pub put_there : {X : Type 0} (xs : List X) (n : ℕ) (x c : X) → slice_get (set xs n x) n ≡ Some c → c ≡ x
 put_there xs n x c e = elim (cases_lt n (length xs)) [
   | inl within ↦
       let put : slice_get (set xs n x) n ≡ Some x =
@@ -82,7 +82,7 @@ get_put xs k n d c clear others e = elim (cases_eq n k) [
   | inr apart ↦ others c (sym (get_other xs k n d apart) ∙ e)
 ]
 
-aligned : (b : Bool) (o : Option Cell) (c : Cell) → (if b then o else None) ≡ Some c → (b ≡ true) × (o ≡ Some c)
+pub aligned : (b : Bool) (o : Option Cell) (c : Cell) → (if b then o else None) ≡ Some c → (b ≡ true) × (o ≡ Some c)
 aligned true o c e = (refl, e)
 aligned false o c e = cc
 
@@ -140,7 +140,7 @@ cell_not_on q p next false false (Some c) clear e =
     not_on (is_tag_operation q.op) _ _ (c.forward && not (has_bit p 61)) c next
     (and_clear c.forward (not (has_bit p 61)) (clear c refl)) e
 
-never_on : (m : TaggedMemory) (q : Request) (p next : ℕ) → IsUnforwarded m → probe m q p ≡ Forward next → ⊥
+pub never_on : (m : TaggedMemory) (q : Request) (p next : ℕ) → IsUnforwarded m → probe m q p ≡ Forward next → ⊥
 never_on m q p next un e =
     cell_not_on q p next (is_reserved p) (not (address_of p % 8 == 0)) (cell_at m (address_of p)) (un (address_of p)) e
 

@@ -53,7 +53,7 @@ answered_but m q = at_end_but m q (end_of m q)
 
 -- where a request ends that leaves out word k
 
-probe_same : (m n : TaggedMemory) (q : Request) (p : ℕ) → cell_at n (address_of p) ≡ cell_at m (address_of p)
+pub probe_same : (m n : TaggedMemory) (q : Request) (p : ℕ) → cell_at n (address_of p) ≡ cell_at m (address_of p)
     → probe n q p ≡ probe m q p
 probe_same m n q p same =
     ap

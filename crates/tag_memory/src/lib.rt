@@ -3,6 +3,7 @@
 //! table.
 #![tactic(auto)]
 
+mod adds;
 mod bank;
 mod chain;
 mod distant;
@@ -18,6 +19,7 @@ mod tag_set;
 mod tagged_word;
 mod unforwarded;
 
+pub use adds::adds_commute_but_for_numbers;
 pub use distant::distant_requests_swap;
 pub use endings::Ending;
 pub use pointers::{AccessControl, Pointer};
