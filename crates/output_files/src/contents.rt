@@ -1,13 +1,25 @@
 //! What an open file has, and what it gets in place.
 
+use crate::random_numbers::random_number;
 use std::fs::OpenFile;
 use std::io::{Error, ErrorKind, Read, Seek, SeekFrom, Write};
+use std::rt::Files;
+use std::thread::yield_now;
 
 /// The bytes that one read asks for.
 const CHUNK: usize = 4096;
 
 /// How often a file is written that others write to at the same time.
-const MOST_ROUNDS: usize = 10_000;
+const MOST_ROUNDS: u32 = 200;
+
+/// How often a writer lets others run while about one round of theirs goes by, for a short file.
+const YIELDS: u64 = 64;
+
+/// For how many bytes more of a file it does so once more.
+const BYTES_OF_YIELD: u64 = 1024;
+
+/// After how many rounds the longest wait grows no more, which doubles from round to round.
+const ROUNDS_OF_GROWTH: u32 = 6;
 
 /// Whether a file has these bytes, and no others.
 pub(crate) fn has_bytes<T: Read + Seek>(file: &mut T, bytes: &[u8]) -> Result<bool, Error> {
@@ -48,19 +60,32 @@ pub(crate) fn lengthen<T: Write + Seek + OpenFile>(
 }
 
 /// Writes these bytes over all that a file has. Where others write to it at the same time, one of them ends with its own
-/// bytes there: each looks after its last write, if the file may be read, and writes again where others stand there.
-pub(crate) fn overwrite<T: Read + Write + Seek + OpenFile>(
-    file: &mut T,
+/// bytes there: each looks after its last write, if the file may be read, and where others stand there it writes again
+/// after a wait of random length, so that they don't go on in step.
+pub(crate) fn overwrite<F: Files>(
+    files: &F,
+    file: &mut F::File,
     is_readable: bool,
     bytes: &[u8],
 ) -> Result<(), Error> {
-    for _ in 0..MOST_ROUNDS {
+    for round in 0..MOST_ROUNDS {
         overwrite_once(file, bytes)?;
         if !is_readable || has_bytes(file, bytes)? {
             return file.sync_all();
         }
+        wait_at_random(files, round, bytes.len() as u64);
     }
     Err(Error::new(ErrorKind::ResourceBusy, "other programs write to it too"))
+}
+
+/// Lets others run for a random part of the longest wait after a round of writing so many bytes.
+fn wait_at_random<F: Files>(files: &F, round: u32, length: u64) {
+    let most = (YIELDS + length / BYTES_OF_YIELD) << round.min(ROUNDS_OF_GROWTH);
+    // (a root without devices)
+    let number = random_number(files).unwrap_or(u64::from(round));
+    for _ in 0..number % most {
+        yield_now();
+    }
 }
 
 /// The same, whoever else writes to it.

@@ -8,6 +8,7 @@ mod identities;
 mod making;
 mod new_files;
 mod places;
+mod random_numbers;
 mod replacing;
 mod used_files;
 mod write_faults;

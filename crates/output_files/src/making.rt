@@ -1,10 +1,10 @@
 //! A file that is made where there was none.
 
 use crate::places::folder_of;
+use crate::random_numbers::random_number;
 use std::alloc::{AllocError, Global};
-use std::fs;
 use std::fs::{OpenFile, OpenOptions};
-use std::io::{Error, ErrorKind, Read, Write};
+use std::io::{Error, ErrorKind, Write};
 use std::os::unix::fs::{MetadataExt, OpenOptionsExt};
 use std::rt::Files;
 
@@ -125,14 +125,6 @@ fn name_in<F: Files>(
         Err(_) => time_of(files, folder).wrapping_add(attempt),
     };
     format!(in alloc; "{folder}.mta_lab-{number:016x}.new")
-}
-
-/// A number that the system draws at random.
-fn random_number<F: Files>(files: &F) -> Result<u64, Error> {
-    let mut source = fs::open(files, "/dev/urandom")?;
-    let mut bytes = [0u8; 8];
-    source.read_exact(&mut bytes)?;
-    Ok(u64::from_le_bytes(bytes))
 }
 
 /// The nanoseconds of the second in which a folder was last changed; 0 where that is not known.

@@ -55,7 +55,7 @@ pub(crate) fn replace_content<F: Files>(
         let _ = files.remove_file(&beside);
         return begun;
     }
-    match overwrite(&mut old.file, old.is_readable, bytes) {
+    match overwrite(files, &mut old.file, old.is_readable, bytes) {
         Ok(()) => {
             let _ = files.remove_file(&beside);
             Ok(())
