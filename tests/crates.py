@@ -17,7 +17,7 @@ DOCUMENT = f"{ROOT}/docs/ARCHITECTURE.md"
 # the heading from which on crates are not part of the proved core
 FIRST_OF_LAB = "What the lab says and shows"
 # how many ways may lead from the libraries down: the kit follows each of them twice, and reads the files on it
-MOST_WAYS = 357_000
+MOST_WAYS = 358_000
 TABLE = re.compile(r"(?s)(## Crates, lowest first\n\n).*?(?=\n\n## )")
 
 

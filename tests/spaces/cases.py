@@ -16,14 +16,21 @@ from ends_alone import EndsAlone
 
 # how many worlds a program that is searched has, and how many programs a seed tries to find one
 LEAST, MOST, TRIES = 8, 300, 200
-# of so many programs one has streams that seldom meet
-APART = 4
+# of so many programs one has streams that seldom meet, and one streams that add to words and use a ring
+APART, ADDING = 4, 4
 # the verdict of `grade --explore` where no end and no claim is against a program
 SPINS, RIGHT = "spins", "right"
 # the kinds of endless loops
 ENDLESS = ("spinning", "looping")
 # how a program is surveyed
 SURVEY = ("survey", "--seeds", "4", "--steps", "60", "--explore", "--json")
+
+
+def kind_of(seed):
+    """Which programs a seed makes."""
+    if seed % APART == 0:
+        return programs.apart
+    return programs.adding if seed % ADDING == 1 else programs.made
 
 
 class Case:
@@ -33,7 +40,7 @@ class Case:
         self.seed = seed
         chance = random.Random(seed)
         for _ in range(TRIES):
-            self.made = (programs.apart if seed % APART == 0 else programs.made)(chance)
+            self.made = kind_of(seed)(chance)
             self.space = search.Space(self.made.program, (), MOST)
             if self.space.is_whole and len(self.space.distance) >= LEAST:
                 break

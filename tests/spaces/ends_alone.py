@@ -23,7 +23,7 @@ class EndsAlone:
         self.live = Liveness(program)
         self.asking = Asking(program, self.live.is_handled)
         self.settled = Settled(program)
-        self.first_sets = FirstSets(program)
+        self.first_sets = FirstSets(program, self.live, self.named)
         world = machine.start(program)
         for p, s in begin:
             world, _ = machine.step(program, world, p, s)
@@ -71,7 +71,7 @@ class EndsAlone:
                 others.append((p, s))
             elif self.take(at, p, s) > at:
                 return
-        found = self.first_sets.least(world)
+        found = self.first_sets.least(world, [step for step in others if self.is_unseen(world, step)])
         first = [step for step in others if step in found] if found else others
         later = [(p, s) for p, s in first if self.take(at, p, s) > at]
         if found and not any(self.is_unseen(world, step) for step in later):
@@ -95,6 +95,8 @@ class EndsAlone:
     def is_unseen(self, world, step):
         """Whether the reference of a step is of no word that is looked at, or only reads, and neither stands at a place that is
         looked at nor leads to one."""
+        if not self.first_sets.asked(world, step):
+            return False
         p, s = step
         after, _ = machine.step(self.program, world, p, s)
         before, behind = [at.processors[p].streams[s] for at in (world, after)]

@@ -3,7 +3,7 @@ docs/LAB_REFERENCE.md ("Every schedule")."""
 
 import machine
 import memory as store
-from touched import Touched, may_change
+from touched import Touched, adds, may_change, unread_places
 
 
 def may_forward(program):
@@ -15,15 +15,16 @@ def may_forward(program):
 class FirstSets:
     """The sets of a program's worlds; none where a word may forward."""
 
-    def __init__(self, program):
+    def __init__(self, program, live, named):
         self.program, self.is_asked = program, not may_forward(program)
-        self.tables = [Touched(program, entry) for entry in program.entries]
+        self.unread = unread_places(program, live, named)
+        self.tables = [Touched(program, entry, self.unread) for entry in program.entries]
 
-    def least(self, world):
-        """Of the sets that begin with each of the steps, the first of the least ones; None where there is none but the set
+    def least(self, world, firsts):
+        """Of the sets that begin with each of these steps, the first of the least ones; None where there is none but the set
         of all."""
         running, best = machine.running(world), None
-        for first in running if self.is_asked else ():
+        for first in [step for step in running if step in firsts] if self.is_asked else ():
             found = self.grown(world, running, first)
             if len(found) < len(best or running) and self.is_apart(world, running, found):
                 best = found
@@ -60,7 +61,14 @@ class FirstSets:
         """Whether a stream never comes to meet the request of a step."""
         stream, table = world.processors[other[0]].streams[other[1]], self.tables[other[0]]
         asked = self.request(world, step).pointer % 2**48 // 8
-        return table.is_standing(stream) and table.is_passed(stream.ssw % 2**32, asked, may_change(self.asked(world, step)))
+        is_changed, is_quiet = may_change(self.asked(world, step)), self.is_quiet(world, step)
+        return table.is_standing(stream) and table.is_passed(stream.ssw % 2**32, asked, is_changed, is_quiet)
+
+    def is_quiet(self, world, step):
+        """Whether the request of a step is an add of which nobody reads what it loads."""
+        stream = world.processors[step[0]].streams[step[1]]
+        _, _, _, base, _ = operation = self.asked(world, step)
+        return adds(stream.registers[base], operation) and stream.ssw % 2**32 in self.unread
 
     def goes(self, world, step):
         """Whether a reference is not blocked."""

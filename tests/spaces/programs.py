@@ -60,6 +60,43 @@ def part_of(chance, stream, start, length, shared):
     yield Word(control=("QUIT",)) if chance.random() < 0.85 else Word(control=("SKIP", "ALWAYS", 0, -length))
 
 
+def adding(chance):
+    """A random program whose streams add to words that they share, read what they added to at times, and use slots of a
+    ring whose places an AND cuts off."""
+    entries = chance.choice((2, 3, 3))
+    parts = [[*adding_part(chance, 2 if entries < 3 else 1), Word(control=("QUIT",))] for _ in range(entries)]
+    starts = tuple(sum(map(len, parts[:stream])) for stream in range(entries))
+    data = tuple((chance.choice(VALUES), bare_tags(chance)) for _ in range(4))
+    trap = 0 if chance.random() < 0.05 else NO_HANDLER
+    words = tuple(word for part in parts for word in part)
+    program = Program(1, chance.choice((0, 0, 0, 1)), trap, starts, data, words)
+    return Made(program, text_of(program), len(data))
+
+
+def adding_part(chance, length):
+    """The part of a stream: so many times it adds to a word, or uses a slot of a ring of two words."""
+    for _ in range(length):
+        if chance.random() < 0.65:
+            yield Word(wide=("LIT", 1, chance.choice((1, 2, 2**32 - 1))))
+            yield Word(memory=("FADD", chance.choice((".N", ".N", "", "", ".F", ".S")), 1, 0, chance.choice((0, 0, 1))))
+            if chance.random() < 0.3:
+                yield Word(arithmetic=("ADD", False, 2, 1, 1), control=skip_past(chance))
+        else:
+            yield Word(arithmetic=("AND", False, 2, chance.choice((1, 2)), chance.choice((1, 1, 2, 3))))
+            yield Word(arithmetic=("SHL", False, 2, 2, 3))
+            yield Word(memory=(*chance.choice((("LOAD", ".S"), ("STORE", ".S"), ("STORE", ".N"), ("FADD", ".N"))), 1, 2, 2))
+
+
+def skip_past(chance):
+    """At times a SKIP to the next word but one."""
+    return ("SKIP", chance.choice(CONDITIONS), 0, 0) if chance.random() < 0.3 else None
+
+
+def bare_tags(chance):
+    """Mostly full or empty; at times with a bit that traps. None forwards."""
+    return chance.choice((0, 1, 1, 1)) | (chance.choice((4, 8)) if chance.random() < 0.1 else 0)
+
+
 def tags_of(chance):
     """Mostly full or empty; at times with a bit that traps or forwards."""
     return chance.choice((0, 1, 1, 1)) | (chance.choice((2, 4, 8)) if chance.random() < 0.06 else 0)

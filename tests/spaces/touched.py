@@ -8,18 +8,24 @@ from settled import ASKING
 
 # so many words have a name each; of a place that asks for another one nothing is known
 MOST_WORDS, MOST_PLACES = 64, 4096
+# so many numbers are known of a register at most, that it may hold; and what an AND of anything and these numbers may be
+MOST_NUMBERS = 4
+MASKED = {1: frozenset(range(2)), 3: frozenset(range(4))}
 # what a stream holds where it begins: each register 0; where CREATE starts it r1 is unknown
-BEGUN = (0,) * 32
-CREATED = (0, None) + (0,) * 30
+ZERO = frozenset([0])
+BEGUN = (ZERO,) * 32
+CREATED = (ZERO, None) + (ZERO,) * 30
 
 
 class Touched:
-    """What is known of the places of a program, of streams that begin at an entry. `known` has by place what registers hold
-    there, None where that differs; `touches` and `changes` the words that may be asked for, and changed, from there on. A
-    place that they lack is open."""
+    """What is known of the places of a program, of streams that begin at an entry. `known` has by place the few numbers of
+    which each register holds one there, None where there are more; `touches` and `changes` the words that may be asked for, and changed, from there on, and
+    `uses` those that may be asked for otherwise than by adds which load what nobody reads. A place that they lack is open.
+    `unread` has the places at which nobody reads what is loaded."""
 
-    def __init__(self, program, entry):
-        self.program, self.known, self.touches, self.changes = program, {}, {}, {}
+    def __init__(self, program, entry, unread):
+        self.program, self.known, self.touches, self.changes, self.uses = program, {}, {}, {}, {}
+        self.unread = unread
         if len(program.words) > MOST_PLACES:
             return
         self.join(entry, BEGUN)
@@ -37,7 +43,7 @@ class Touched:
         if place >= len(self.program.words):
             return False
         old = self.known.get(place)
-        new = row if old is None else tuple(a if a == b else None for a, b in zip(old, row))
+        new = row if old is None else tuple(few(a, b) for a, b in zip(old, row))
         self.known[place] = new
         return old != new
 
@@ -54,28 +60,31 @@ class Touched:
             word, row = self.program.words[place], self.known[place]
             if not is_calm(word):
                 continue
-            self.touches[place], self.changes[place] = set(), set()
+            self.touches[place], self.changes[place], self.uses[place] = set(), set(), set()
             if not word.memory:
                 continue
-            asked = word_asked(row, word.memory)
-            if asked is not None and forwards_none(row, word.memory) and asked not in names:
-                names.append(asked)
-            if asked is None or not forwards_none(row, word.memory) or names.index(asked) >= MOST_WORDS:
-                del self.touches[place], self.changes[place]
+            asked = words_asked(row, word.memory) if forwards_none(row, word.memory) else None
+            for number in sorted(asked or ()):
+                if number not in names:
+                    names.append(number)
+            if asked is None or any(names.index(number) >= MOST_WORDS for number in asked):
+                del self.touches[place], self.changes[place], self.uses[place]
                 continue
-            self.touches[place].add(asked)
+            self.touches[place] |= asked
             if may_change(word.memory):
-                self.changes[place].add(asked)
+                self.changes[place] |= asked
+            if not (may_only_add(row, word.memory) and place in self.unread):
+                self.uses[place] |= asked
 
     def take_back(self, place):
         """A place is open that leads to an open one; else it has what those have to which it leads. Says whether something
         is new."""
         for to in following(self.program.words[place], place):
             if to not in self.touches:
-                del self.touches[place], self.changes[place]
+                del self.touches[place], self.changes[place], self.uses[place]
                 return True
         new = False
-        for rows in (self.touches, self.changes):
+        for rows in (self.touches, self.changes, self.uses):
             for to in following(self.program.words[place], place):
                 new |= not rows[to] <= rows[place]
                 rows[place] = rows[place] | rows[to]
@@ -85,11 +94,13 @@ class Touched:
         """Whether a running stream stands at such a place, holds what is known there, and has no handler for traps."""
         place = stream.ssw % 2**32
         return (place in self.touches and stream.targets[0] % 2**32 == machine.NO_HANDLER
-                and all(row is None or row == value for row, value in zip(self.known[place], stream.registers)))
+                and all(row is None or value in row for row, value in zip(self.known[place], stream.registers)))
 
-    def is_passed(self, place, asked, is_changed):
-        """Whether a word is not asked for from there on, or is only read, if it is only read now."""
-        return asked not in (self.touches if is_changed else self.changes)[place]
+    def is_passed(self, place, asked, is_changed, is_quiet):
+        """Whether a word is not asked for from there on; or is only read, if it is only read now; or is only added to with
+        nobody reading what is loaded, if that is so now (`is_quiet`)."""
+        return (asked not in self.touches[place] or not is_changed and asked not in self.changes[place]
+                or is_quiet and asked not in self.uses[place])
 
 
 def is_calm(word):
@@ -109,39 +120,87 @@ def following(word, place):
     return [(place + 1) % 2**32]
 
 
+def few(*known):
+    """All these numbers; None where one is not known, or they are too many."""
+    if None in known:
+        return None
+    numbers = frozenset().union(*known)
+    return numbers if len(numbers) <= MOST_NUMBERS else None
+
+
+def results(name, first, second):
+    """What an operation may make of two operands: one of them has to be known, and the other to be one of a few."""
+    if first is None or second is None or len(first) > 1 and len(second) > 1:
+        return None
+    return frozenset(machine.RESULTS[name](a, b) & machine.LAST for a in first for b in second)
+
+
 def after(row, word):
-    """What registers hold after a word; None where that is not known."""
+    """What registers may hold after a word; None where that is not known."""
     row = list(row)
     old = tuple(row)
     if word.wide:
         name, to, immediate = word.wide
         if name == "LIT" and to:
-            row[to] = immediate
+            row[to] = frozenset([immediate])
         elif name == "LITH" and to:
-            row[to] = None if old[to] is None else immediate << 32 | old[to] % 2**32
+            row[to] = None if old[to] is None else frozenset(immediate << 32 | low % 2**32 for low in old[to])
         return tuple(row)
     if word.memory and word.memory[0] in GIVE_BACK and word.memory[2]:
         row[word.memory[2]] = None
     if word.arithmetic:
         name, _, rd, ra, b = word.arithmetic
-        a, b = old[ra], old[int(b[1:])] if isinstance(b, str) else b
+        mask = MASKED.get(b) if name == "AND" else None
+        second = old[int(b[1:])] if isinstance(b, str) else frozenset([b])
         if rd:
-            row[rd] = None if a is None or b is None else machine.RESULTS[name](a, b) & machine.LAST
+            found = results(name, old[ra], second)
+            row[rd] = mask if found is None else found
     if word.control and word.control[0] in ("TGET", "XGET", "RESERVE") and word.control[1]:
         row[word.control[1]] = None
     return tuple(row)
 
 
-def word_asked(row, operation):
-    """The number of the word that a memory operation asks for."""
+def unread_places(program, live, named):
+    """The places at which a word loads a register that is not named, and not live wherever the word goes on."""
+    found = set()
+    for place, word in enumerate(program.words):
+        loaded = word.memory[2] if word.memory and word.memory[0] in GIVE_BACK else 0
+        leads_anywhere = bool(word.control) and word.control[0] in ANYWHERE
+        if (loaded and loaded not in named and not leads_anywhere
+                and all(loaded not in live.row(to) for to in following(word, place))):
+            found.add(place)
+    return found
+
+
+def is_normal(pointer):
+    """Whether the control that a pointer carries is the normal one; the reserved one reads as it."""
+    return pointer >> 59 & 3 < 2
+
+
+def adds(pointer, operation):
+    """Whether a memory operation from this base is a FADD by normal control."""
+    name, suffix, *_ = operation
+    return name == "FADD" and (suffix == ".N" or not suffix and is_normal(pointer))
+
+
+def may_only_add(row, operation):
+    """Whether it is one from whatever base it may have."""
+    name, suffix, _, base, _ = operation
+    if name != "FADD" or suffix not in ("", ".N"):
+        return False
+    return suffix == ".N" or row[base] is not None and all(adds(pointer, operation) for pointer in row[base])
+
+
+def words_asked(row, operation):
+    """The numbers of the words that a memory operation may ask for; None where they are not known."""
     _, _, _, base, displacement = operation
-    return None if row[base] is None else (row[base] + 8 * displacement) % 2**48 // 8
+    return None if row[base] is None else {(start + 8 * displacement) % 2**48 // 8 for start in row[base]}
 
 
 def forwards_none(row, operation):
     """Whether it sets no forward bit."""
     name, _, rd, _, _ = operation
-    return name != "TAGSET" or row[rd] is not None and not row[rd] & store.FORWARD
+    return name != "TAGSET" or row[rd] is not None and not any(value & store.FORWARD for value in row[rd])
 
 
 def may_change(operation):

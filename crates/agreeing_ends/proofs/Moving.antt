@@ -1,6 +1,6 @@
 -- Of a set that can be taken before all others, some step is one of each schedule to an end, and the first that is can be
 -- moved to its front.
-use Rattle.std.proofs.Common.{◌≡◌, ◌≢◌, ◌⊎◌, inl, inr, zero, suc, refl, sym, ap, ◌∙◌, arith, List, [], ◌∷◌, ◌++◌, length}
+use Rattle.std.proofs.Common.{◌≡◌, ◌≢◌, ◌⊎◌, inl, inr, zero, suc, refl, sym, ap, ◌∙◌, subst, arith, List, [], ◌∷◌, ◌++◌, length}
 use Rattle.std.specs.List.{Contains}
 use Rattle.image_file.specs.ImageValue.{ImageValue}
 use Rattle.processor.specs.World.{World, after, steps}
@@ -43,12 +43,12 @@ in_or_out (u ∷ set) t = by_front (same_step u t) (in_or_out set t) where
       inr (λ c. elim (front_or_rest u t set c) [ inl same ↦ apart same | inr there ↦ none there ])
 
 -- A step of the set is one of the schedule, and can be taken first.
-pub record IsMoved (image : ImageValue) (w : World) (set ts : List Step) : Type 0 where
+pub record IsMoved (R : World → World → Type 0) (image : ImageValue) (w : World) (set ts : List Step) : Type 0 where
   pub step : Step
   pub there : Contains set step
   pub others : List Step
   pub one_less : length ts ≡ suc (length others)
-  pub leads : steps image (after image w step) others ≡ steps image w ts
+  pub leads : R (steps image (after image w step) others) (steps image w ts)
 
 -- The schedule goes on, but for steps outside of the set in front of it, with one of the set.
 record IsSplit (set ts : List Step) : Type 0 where
@@ -80,21 +80,29 @@ length_less : (us : List Step) (t : Step) (vs : List Step) → length (us ++ t �
 length_less [] t vs = refl
 length_less (u ∷ us) t vs = ap (λ n. suc n) (length_less us t vs)
 
-module _ (image : ImageValue) (w : World) (set : List Step) (first : IsFirstSet image w set) where
-  moved_by : (ts : List Step) → IsSplit set ts → IsMoved image w set ts
+-- Worlds that are alike still are after the same schedule, where a schedule leads to one of them from this world.
+abbrev pub MovesOn : (World → World → Type 0) → ImageValue → World → Type 0
+MovesOn R image w =
+    (us : List Step) (x : World) (ts : List Step) → R (steps image w us) x
+    → R (steps image (steps image w us) ts) (steps image x ts)
+
+module _ (R : World → World → Type 0) (image : ImageValue) (w : World) (set : List Step) (first : IsFirstSet R image w set)
+    (on : MovesOn R image w) where
+  moved_by : (ts : List Step) → IsSplit set ts → IsMoved R image w set ts
   moved_by ts s = record {
     step = s.step;
     there = s.there;
     others = s.before ++ s.behind;
     one_less = ap length s.is ∙ length_less s.before s.step s.behind;
     leads =
-        steps-append image (after image w s.step) s.before s.behind
-        ∙ ap (λ x. steps image x s.behind) (sym (first.each s.step s.there s.before s.outside))
-        ∙ sym (steps-append image w s.before (s.step ∷ s.behind))
-        ∙ ap (steps image w) (sym s.is);
+        subst (λ x. R x (steps image w ts)) (sym (steps-append image (after image w s.step) s.before s.behind))
+        (subst (R (steps image (steps image (after image w s.step) s.before) s.behind))
+        (sym (steps-append image w s.before (s.step ∷ s.behind)) ∙ ap (steps image w) (sym s.is))
+        (on (s.step ∷ s.before) (after image (steps image w s.before) s.step) s.behind
+        (first.each s.step s.there s.before s.outside)));
   }
 
-  pub moved_or_outside : (ts : List Step) → IsMoved image w set ts ⊎ AreOutside set ts
+  pub moved_or_outside : (ts : List Step) → IsMoved R image w set ts ⊎ AreOutside set ts
   moved_or_outside ts = elim (split set ts) [ inl all ↦ inr all | inr s ↦ inl (moved_by ts s) ]
 
   -- no schedule of others leads to an end
@@ -102,5 +110,5 @@ module _ (image : ImageValue) (w : World) (set : List Step) (first : IsFirstSet 
   not_end ts out (inl finished) = finished (first.key, first.runs ts out)
   not_end ts out (inr still) = first.free ts out (still.each first.key (first.runs ts out))
 
-  pub moved : (ts : List Step) → IsEnd image (steps image w ts) → IsMoved image w set ts
+  pub moved : (ts : List Step) → IsEnd image (steps image w ts) → IsMoved R image w set ts
   moved ts end = elim (moved_or_outside ts) [ inl m ↦ m | inr out ↦ absurd (not_end ts out end) ]

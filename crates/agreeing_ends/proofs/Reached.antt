@@ -11,7 +11,7 @@ use Rattle.same_futures.proofs.Chains.{agree_itself, agree_next, agree_back, sch
 use Rattle.same_futures.proofs.Alike.{agreeing_end_alike}
 use Rattle.agreeing_ends.specs.Followed.{IsEnd, CanEnd, FoundWorlds, IsTaken, IsExpanded, IsTakenTogether, AllExpanded, AllFollowed}
 use Rattle.agreeing_ends.specs.Followed.{HasAllWorlds, HasAllEnds, IsDistinct, HasShortestEnds, TellsWhetherAllEnd, IsGrounded}
-use Rattle.agreeing_ends.proofs.Moving.{moved_or_outside, moved}
+use Rattle.agreeing_ends.proofs.Moving.{MovesOn, moved_or_outside, moved}
 
 -- The end to which a schedule leads from the world at a place is one that another one stands for, which is near.
 record IsReached (R : World → World → Type 0) (v : FoundWorlds) (k : ℕ) (ts : List Step) : Type 0 where
@@ -47,6 +47,11 @@ module _ (handled : Type 0) (named : ℕ → Type 0) (live asked : ℕ → ℕ �
   can_over a b told g can =
       (can.0, end_over (steps v.image a can.0) (steps v.image b can.0) (told can.0) (agree_on a b can.0 told g) can.1)
 
+  -- worlds that agree still do after the same schedule, wherever one that was found leads
+  pub moves_on : (k : ℕ) → k < v.count → MovesOn Agree v.image (v.world k)
+  moves_on k below us x ts =
+      agree_on (steps v.image (v.world k) us) x ts (told_on (v.world k) us (ground.told k below))
+
   -- One step more in front.
 
   over : (k : ℕ) (t : Step) (us : List Step) (e : IsTaken Agree v k t)
@@ -55,25 +60,29 @@ module _ (handled : Type 0) (named : ℕ → Type 0) (live asked : ℕ → ℕ �
       agree_on (v.world e.to) (after v.image (v.world k) t) us (ground.told e.to e.within) e.leads
 
   reached_on : (k : ℕ) (t : Step) (ts us : List Step) (e : IsTaken Agree v k t) → length ts ≡ suc (length us)
-      → steps v.image (after v.image (v.world k) t) us ≡ steps v.image (v.world k) ts
+      → Agree (steps v.image (after v.image (v.world k) t) us) (steps v.image (v.world k) ts)
       → IsReached Agree v e.to us → IsReached Agree v k ts
   reached_on k t ts us e one_less leads r = record {
     place = r.place;
     below = r.below;
-    stands = subst (Agree (v.world r.place)) leads
+    stands =
+        agree_next named live asked (v.world r.place) (steps v.image (after v.image (v.world k) t) us)
+        (steps v.image (v.world k) ts)
         (agree_next named live asked (v.world r.place) (steps v.image (v.world e.to) us)
-        (steps v.image (after v.image (v.world k) t) us) r.stands (over k t us e));
+        (steps v.image (after v.image (v.world k) t) us) r.stands (over k t us e))
+        leads;
     short = omega (arith, r.short, e.near, one_less);
   }
 
   pub end_on : (k : ℕ) (t : Step) (ts us : List Step) (e : IsTaken Agree v k t) → k < v.count
-      → steps v.image (after v.image (v.world k) t) us ≡ steps v.image (v.world k) ts
+      → Agree (steps v.image (after v.image (v.world k) t) us) (steps v.image (v.world k) ts)
       → IsEnd v.image (steps v.image (v.world k) ts) → IsEnd v.image (steps v.image (v.world e.to) us)
   end_on k t ts us e below leads end =
-      end_over (steps v.image (after v.image (v.world k) t) us) (steps v.image (v.world e.to) us)
-      (ground.told k below (t ∷ us))
-      (agree_back named live asked (steps v.image (v.world e.to) us) (steps v.image (after v.image (v.world k) t) us) (over k t us e))
-      (subst (IsEnd v.image) (sym leads) end)
+      let there = steps v.image (after v.image (v.world k) t) us in
+      let here = steps v.image (v.world k) ts in
+      end_over there (steps v.image (v.world e.to) us) (ground.told k below (t ∷ us))
+      (agree_back named live asked (steps v.image (v.world e.to) us) there (over k t us e))
+      (end_over here there (ground.told k below ts) (agree_back named live asked there here leads) end)
 
   can_on : (k : ℕ) (t : Step) (us : List Step) (e : IsTaken Agree v k t) → CanEnd v.image (steps v.image (v.world e.to) us)
       → CanEnd v.image (steps v.image (after v.image (v.world k) t) us)
@@ -91,7 +100,8 @@ module _ (handled : Type 0) (named : ℕ → Type 0) (live asked : ℕ → ℕ �
   all_reached all [] k below = itself k below
   all_reached all (t ∷ ts) k below =
       let e = all k below t in
-      reached_on k t (t ∷ ts) ts e refl refl (all_reached all ts e.to e.within)
+      reached_on k t (t ∷ ts) ts e refl (agree_itself named live asked (steps v.image (v.world k) (t ∷ ts)))
+      (all_reached all ts e.to e.within)
 
   pub has_all_worlds : AllExpanded Agree v → HasAllWorlds Agree v
   has_all_worlds all ts =
@@ -108,10 +118,11 @@ module _ (handled : Type 0) (named : ℕ → Type 0) (live asked : ℕ → ℕ �
     reached (suc n) k (t ∷ ts) few below end =
         elim (all k below) [
           | inl each ↦
-              reached_on k t (t ∷ ts) ts (each t) refl refl
-              (reached n (each t).to ts (omega (arith, few)) (each t).within (end_on k t (t ∷ ts) ts (each t) below refl end))
+              let same = agree_itself named live asked (steps v.image (v.world k) (t ∷ ts)) in
+              reached_on k t (t ∷ ts) ts (each t) refl same
+              (reached n (each t).to ts (omega (arith, few)) (each t).within (end_on k t (t ∷ ts) ts (each t) below same end))
           | inr some ↦
-              let m = moved v.image (v.world k) some.set some.first (t ∷ ts) end in
+              let m = moved Agree v.image (v.world k) some.set some.first (moves_on k below) (t ∷ ts) end in
               let e = some.taken m.step m.there in
               reached_on k m.step (t ∷ ts) m.others e m.one_less m.leads
               (reached n e.to m.others (omega (arith, few, m.one_less)) e.within
@@ -146,19 +157,22 @@ module _ (handled : Type 0) (named : ℕ → Type 0) (live asked : ℕ → ℕ �
         subst (CanEnd v.image) (ap (steps v.image (v.world k)) (sym same))
         (can_on k t rest e (shorter e.to rest (sym (ap length same)) e.within))
     onward_by k ts es below (inr some) t rest same end shorter nearer =
-        elim (moved_or_outside v.image (v.world k) some.set some.first ts) [
+        elim (moved_or_outside Agree v.image (v.world k) some.set some.first (moves_on k below) ts) [
           | inl on ↦
               let e = some.taken on.step on.there in
-              subst (CanEnd v.image) on.leads
+              can_over (steps v.image (after v.image (v.world k) on.step) on.others) (steps v.image (v.world k) ts)
+              (told_on (v.world k) (on.step ∷ on.others) (ground.told k below)) on.leads
               (can_on k on.step on.others e (shorter e.to on.others (sym on.one_less) e.within))
           | inr out ↦
-              let off = moved v.image (v.world k) some.set some.first es end in
+              let off = moved Agree v.image (v.world k) some.set some.first (moves_on k below) es end in
               let e = some.taken off.step off.there in
               let there = can_on k off.step ts e
-              (nearer e.to off.others (sym off.one_less) e.within (end_on k off.step es off.others e below off.leads end)) in (
-                off.step ∷ there.0,
-                subst (λ x. IsEnd v.image (steps v.image x there.0)) (sym (some.first.each off.step off.there ts out)) there.1,
-              )
+              (nearer e.to off.others (sym off.one_less) e.within (end_on k off.step es off.others e below off.leads end)) in
+              let behind =
+              can_over (steps v.image (after v.image (v.world k) off.step) ts)
+              (after v.image (steps v.image (v.world k) ts) off.step)
+              (told_on (v.world k) (off.step ∷ ts) (ground.told k below)) (some.first.each off.step off.there ts out) there in
+              (off.step ∷ behind.0, behind.1)
         ]
 
     onward : (n m k : ℕ) (ts es : List Step) → length ts ≤ n → length es ≤ m → k < v.count

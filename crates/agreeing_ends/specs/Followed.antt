@@ -46,7 +46,7 @@ pub record IsTakenAlone (R : World → World → Type 0) (v : FoundWorlds) (from
 -- so does each step of a set that can be taken before all others
 pub record IsTakenTogether (R : World → World → Type 0) (v : FoundWorlds) (from : ℕ) : Type 0 where
   pub set : List Step
-  pub first : IsFirstSet v.image (v.world from) set
+  pub first : IsFirstSet R v.image (v.world from) set
   pub taken : (t : Step) → Contains set t → IsTaken R v from t
 
 -- each step from each of them is taken

@@ -9,10 +9,10 @@ use Rattle.same_futures.specs.LocalSteps.FreeSteps.{IsFreeStep}
 use Rattle.agreeing_ends.specs.FirstSets.{AreOutside}
 use Rattle.agreeing_ends.specs.Followed.{FoundWorlds, IsTaken, IsExpanded, IsTakenTogether, world_after}
 
--- Worlds that are alike still are after the same schedule, where one of them was found.
+-- Worlds that are alike still are after the same schedule, where a schedule leads to one of them from one that was found.
 pub record IsMoving (R : World → World → Type 0) (v : FoundWorlds) : Type 0 where
-  pub on : (k : ℕ) → k < v.count → (w : World) (ts : List Step) → R (v.world k) w
-      → R (steps v.image (v.world k) ts) (steps v.image w ts)
+  pub on : (k : ℕ) → k < v.count → (us : List Step) (w : World) (ts : List Step) → R (steps v.image (v.world k) us) w
+      → R (steps v.image (steps v.image (v.world k) us) ts) (steps v.image w ts)
 
 -- each of these steps is another one
 abbrev pub AreOthers : Step → List Step → Type 0

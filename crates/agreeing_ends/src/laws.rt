@@ -48,5 +48,6 @@ pub fn worlds_of_schedules_are_grounded()
 
 /// A step that can be taken before all others is, alone, a set that can.
 pub fn free_steps_are_first_sets()
-    ensures { (image : ImageValue) (w : World) (t : Step) → IsFreeStep image w t → IsFirstSet image w (t ∷ []) }
+    ensures { (image : ImageValue) (w : World) (t : Step) → IsFreeStep image w t
+        → IsFirstSet (λ a b. a ≡ b) image w (t ∷ []) }
 {}

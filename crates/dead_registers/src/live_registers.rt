@@ -104,8 +104,7 @@ impl LiveRegisters {
     pub fn matters(&self, stream: &Stream, register: u8) -> bool
         ensures { result ≡ matters self.now stream.now register }
     {
-        is_named(&self.names, register)
-            || is_running(stream) && self.is_live(stream.ssw().pc, register)
+        self.is_named(register) || is_running(stream) && self.is_live(stream.ssw().pc, register)
     }
 
     /// The status word of a stream, where it is not idle without the condition codes that do not matter.
@@ -144,8 +143,15 @@ impl LiveRegisters {
         }
     }
 
+    /// Whether a register is named.
+    pub fn is_named(&self, register: u8) -> bool
+        ensures { result ≡ is_named_by self.now.names register }
+    {
+        is_named(&self.names, register)
+    }
+
     /// Whether a register is live at a place of the program.
-    fn is_live(&self, place: u32, register: u8) -> bool
+    pub fn is_live(&self, place: u32, register: u8) -> bool
         ensures { result ≡ is_live_at self.now.table place register }
     {
         match self.table.get(place as usize) {

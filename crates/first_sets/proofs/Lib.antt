@@ -1,5 +1,8 @@
+pub mod LoadedNumbers
+pub mod Orders
 pub mod Resting
 pub mod Meeting
+pub mod Replies
 pub mod Apart
 pub mod Members
 pub mod ZeroRegisters

@@ -89,12 +89,12 @@ goes_by image w t s q f free e =
     (sym (ap (λ (x : World × Outcome). x.1) (stepped image w t s (Some q) f)) ∙ e)
 
 -- Who does not run keeps off, and who runs is among those that do.
-pub all_keep_off : (tables : List TouchValue) (w : World) (running set : List Step) (q : Request)
+pub all_keep_off : (tables : List TouchValue) (w : World) (running set : List Step) (quiet : Bool) (q : Request)
     → ((t : Step) → IsTrue (runs_in w t) → Contains running t)
-    → ((u : Step) → Contains running u → ¬ (Contains set u) → KeepsOff tables w u q)
-    → (u : Step) → ¬ (Contains set u) → KeepsOff tables w u q
-all_keep_off tables w running set q all each u none = by (is_running (stream_in w u.p u.s)) refl where
-  by : (b : Bool) → is_running (stream_in w u.p u.s) ≡ b → KeepsOff tables w u q
+    → ((u : Step) → Contains running u → ¬ (Contains set u) → KeepsOff tables w u quiet q)
+    → (u : Step) → ¬ (Contains set u) → KeepsOff tables w u quiet q
+all_keep_off tables w running set quiet q all each u none = by (is_running (stream_in w u.p u.s)) refl where
+  by : (b : Bool) → is_running (stream_in w u.p u.s) ≡ b → KeepsOff tables w u quiet q
   by true e = each u (all u (runs_there w u ∙ e)) none
   by false e = inl e
 

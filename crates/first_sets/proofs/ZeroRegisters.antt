@@ -29,7 +29,7 @@ use Rattle.stream_core.specs.declared.steps.Fetch.TheVariants as fetch
 use Rattle.processor.specs.Processors.{ProcessorValue, stream_at, first_stream, opening}
 use Rattle.processor.specs.Row.{step_fetch_of, request_on_fetch, grant_of, with_stream, lowest_idle, after_control}
 use Rattle.processor.specs.Row.{after_control_if_done, row_on_fetch, memory_reply, row_over_memory}
-use Rattle.processor.specs.World.{World, start, after, steps, run}
+use Rattle.processor.specs.World.{World, start, after}
 use Rattle.processor.specs.declared.steps.Step.{Step}
 use Rattle.processor.proofs.Begun.{row_over_memory_begun}
 use Rattle.processor.proofs.Histories.{after-absent, get_set_other}

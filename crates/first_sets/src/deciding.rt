@@ -1,6 +1,6 @@
 //! Whether the steps of a set are apart from those of all others, of a machine.
 
-ghost use Rattle.std.specs.Prelude.{◌≡◌, ℕ, false, Some, IsTrue, IfSome};
+ghost use Rattle.std.specs.Prelude.{◌≡◌, false, Some, IsTrue, IfSome};
 ghost use Rattle.std.specs.List.{Contains};
 ghost use Rattle.tag_memory.specs.Unforwarded.{IsUnforwarded};
 ghost use Rattle.stream_core.specs.Streams.{StreamValue};
@@ -9,7 +9,7 @@ ghost use Rattle.processor.specs.World.{outcome_of};
 ghost use Rattle.processor.specs.declared.steps.Step.{Step};
 ghost use Rattle.waiting.specs.Running.{runs_in};
 ghost use Rattle.local_steps.specs.NeverAsking.{AsksForNone};
-ghost use Rattle.touched_words.specs.ClosedTables.{IsClosedTable};
+ghost use Rattle.touched_words.specs.ClosedTables.{is_quiet_add};
 ghost use Rattle.commuting_requests.specs.RequestSteps.{IsRequestStep};
 ghost use Rattle.first_sets.specs.ApartSets.{is_blocked, table_at, KeepsOff, IsMember, IsApartSet};
 
@@ -20,15 +20,14 @@ use tag_memory::{Reply, Request};
 use touched_words::TouchTable;
 
 /// Whether the steps of a set are apart from those of all others in a machine's world, by the tables of its processors:
-/// each makes a request that no other stream comes to meet, and one of them is not Blocked. `running` has the steps of all
-/// streams that run.
+/// each makes a request that no other stream comes to meet, but for adds of which nobody reads what they load, and one of
+/// them is not Blocked. `running` has the steps of all streams that run.
 pub fn is_apart_set<const S: usize>(
     machine: &Machine<'_, S>,
     tables: &[TouchTable],
     running: &[Step],
     set: &[Step],
 ) -> bool
-    requires closed { (p : ℕ) → IsClosedTable machine.now.image.profile machine.now.image.program (table_at tables.now p) }
     requires unforwarded { IsUnforwarded machine.now.world.memory }
     requires running { (t : Step) → IsTrue (runs_in machine.now.world t) → Contains running.now t }
     ensures { IsTrue result → IsApartSet machine.now.image tables.now machine.now.world set.now }
@@ -126,24 +125,49 @@ fn is_member<const S: usize>(
 {
     match request_of(machine, step) {
         None => false,
-        Some(request) => are_kept_off(machine, tables, running, set, &request),
+        Some(request) => {
+            let is_quiet = is_quiet_add(machine, tables, step, &request);
+            are_kept_off(machine, tables, running, set, &request, is_quiet)
+        }
     }
 }
 
-/// Whether each stream outside of the set keeps off a request.
+/// Whether the request that a step makes is an add that loads what nobody reads.
+fn is_quiet_add<const S: usize>(
+    machine: &Machine<'_, S>,
+    tables: &[TouchTable],
+    step: Step,
+    request: &Request,
+) -> bool
+    ensures { (s : StreamValue) → IsRequestStep machine.now.image machine.now.world step s (Some request.now)
+        → result ≡ is_quiet_add (table_at tables.now step.p) s.ssw.pc request.now }
+{
+    let _image = machine.image();
+    let Some(stream) = machine.stream(step.p, step.s) else {
+        return false;
+    };
+    let Some(table) = tables.get(usize::from(step.p)) else {
+        return false;
+    };
+    request.is_add() && table.is_unread(stream.ssw().pc)
+}
+
+/// Whether each stream outside of the set keeps off a request, which is an add that loads what nobody reads if `is_quiet`
+/// says so.
 fn are_kept_off<const S: usize>(
     machine: &Machine<'_, S>,
     tables: &[TouchTable],
     running: &[Step],
     set: &[Step],
     request: &Request,
+    is_quiet: bool,
 ) -> bool
     requires running { (t : Step) → IsTrue (runs_in machine.now.world t) → Contains running.now t }
     ensures { IsTrue result → (u : Step) → ¬ (Contains set.now u)
-        → KeepsOff tables.now machine.now.world u request.now }
+        → KeepsOff tables.now machine.now.world u is_quiet request.now }
 {
     for step in running {
-        if !is_kept_off(machine, tables, set, request, *step) {
+        if !is_kept_off(machine, tables, set, request, is_quiet, *step) {
             return false;
         }
     }
@@ -156,11 +180,13 @@ fn is_kept_off<const S: usize>(
     tables: &[TouchTable],
     set: &[Step],
     request: &Request,
+    is_quiet: bool,
     step: Step,
 ) -> bool
-    ensures { IsTrue result → ¬ (Contains set.now step) → KeepsOff tables.now machine.now.world step request.now }
+    ensures { IsTrue result → ¬ (Contains set.now step)
+        → KeepsOff tables.now machine.now.world step is_quiet request.now }
 {
-    has(set, step) || keeps_off(machine, tables, step, request)
+    has(set, step) || keeps_off(machine, tables, step, request, is_quiet)
 }
 
 /// Whether a step is one of a set.
@@ -182,8 +208,9 @@ fn keeps_off<const S: usize>(
     tables: &[TouchTable],
     step: Step,
     request: &Request,
+    is_quiet: bool,
 ) -> bool
-    ensures { IsTrue result → KeepsOff tables.now machine.now.world step request.now }
+    ensures { IsTrue result → KeepsOff tables.now machine.now.world step is_quiet request.now }
 {
     let _image = machine.image();
     let Some(stream) = machine.stream(step.p, step.s) else {
@@ -194,6 +221,8 @@ fn keeps_off<const S: usize>(
     }
     match tables.get(usize::from(step.p)) {
         None => false,
-        Some(table) => table.is_standing(stream) && table.is_passed(stream.ssw().pc, request),
+        Some(table) => {
+            table.is_standing(stream) && table.is_passed(stream.ssw().pc, request, is_quiet)
+        }
     }
 }

@@ -11,11 +11,13 @@ use Rattle.processor.specs.World.{World, steps}
 use Rattle.agreeing_ends.specs.FirstSets.{AreOutside, IsFirstSet}
 use Rattle.agreeing_ends.specs.Unseen.{AreOthers}
 use Rattle.agreeing_ends.specs.LocalSteps.FreeSteps.{IsFreeStep}
-use Rattle.agreeing_ends.proofs.FreeSets.{only_one, first_alone}
+use Rattle.agreeing_ends.proofs.FreeSets.{only_one, first_alone_over}
+use Rattle.world_keys.specs.DeadRegisters.Clearing.{LiveValue, AgreeBy}
 use Rattle.schedule_space.specs.Spaces.{SpaceValue, count, schedule_of, world_of, machine_after}
 use Rattle.schedule_space.specs.Finding.{IsGrown, IsTaken, IsTakenTo, IsExpanded, HasRunning}
 use Rattle.schedule_space.specs.Followed.{IsTakenTogether, IsFollowed, AllFollowed}
 use Rattle.schedule_space.specs.Quiet.{IsQuietStep, IsUnseenStep, IsTakenQuietly, IsFollowedQuietly, AllFollowedQuietly}
+use Rattle.schedule_space.proofs.Agreeing.{agree_same}
 use Rattle.schedule_space.proofs.FreeSteps.{free_memory, free_others}
 use Rattle.schedule_space.proofs.Growing.{world_grown, taken_still, taken_grown, expanded_grown}
 use Rattle.schedule_space.proofs.QuietSteps.{quiet_behind}
@@ -46,8 +48,9 @@ together_grown : (v w : SpaceValue) (k : ℕ) → IsGrown v w → k < count v �
 together_grown v w k g below some = record {
   set = some.set;
   first =
-      subst (λ (i : ImageValue). IsFirstSet i (world_of w k) some.set) (sym g.image)
-      (subst (λ (x : World). IsFirstSet v.image x some.set) (sym (world_grown v w k g below)) some.first);
+      subst (λ (l : LiveValue). IsFirstSet (AgreeBy l) w.image (world_of w k) some.set) (sym g.live)
+      (subst (λ (i : ImageValue). IsFirstSet (AgreeBy v.live) i (world_of w k) some.set) (sym g.image)
+      (subst (λ (x : World). IsFirstSet (AgreeBy v.live) v.image x some.set) (sym (world_grown v w k g below)) some.first));
   taken = λ t there. taken_grown v w k t g below (some.taken t there);
 }
 
@@ -88,7 +91,8 @@ module _ (looked_at : List Bool) (words : List ℕ) where
       record {
         together = record {
           set = t ∷ [];
-          first = first_alone w.image (world_of w from) t free;
+          first =
+              first_alone_over (AgreeBy w.live) w.image (world_of w from) t (λ x. agree_same w.live x x refl) free;
           taken = λ u there. subst (IsTaken w from) (only_one t u there) taken.0;
         };
         step = t;

@@ -9,13 +9,13 @@ use Rattle.agreeing_ends.specs.SameFutures.Handlers.{may_have_handlers}
 use Rattle.world_keys.specs.DeadRegisters.Clearing.{IsLive, AgreeBy}
 use Rattle.agreeing_ends.specs.Followed as found
 use Rattle.agreeing_ends.proofs.Moving.{moved}
-use Rattle.agreeing_ends.proofs.Reached.{end_on, has_all_ends, has_shortest_ends, tells_whether_all_end}
+use Rattle.agreeing_ends.proofs.Reached.{moves_on, end_on, has_all_ends, has_shortest_ends, tells_whether_all_end}
 use Rattle.schedule_space.specs.Spaces.{SpaceValue, count, world_of, AreAllApart}
 use Rattle.schedule_space.specs.Reaching.{IsEnd, CanEnd, IsMarked, HasEndsMarked, AreMarkedBack}
 use Rattle.schedule_space.specs.Finding.{found_in, IsTaken}
 use Rattle.schedule_space.specs.Followed.{AllFollowed, IsFollowed, HasAllEnds, HasShortestEnds, TellsWhetherAllEnd}
 use Rattle.schedule_space.proofs.Schedules.{first-schedule}
-use Rattle.schedule_space.proofs.Agreeing.{Named, Live, Asked, ground, from_begin}
+use Rattle.schedule_space.proofs.Agreeing.{agree_same, Named, Live, Asked, ground, from_begin}
 use Rattle.schedule_space.proofs.Breadth.{depth}
 
 module _ (v : SpaceValue) (live : IsLive v.image v.live) (all : AllFollowed v) where
@@ -62,7 +62,7 @@ module _ (v : SpaceValue) (live : IsLive v.image v.live) (all : AllFollowed v) w
 
     -- the same end, of the world that a step leads to
     same_end : (k : ℕ) (t : Step) (ts us : List Step) (e : IsTaken v k t) → k < count v
-        → steps v.image (world_of v k) (t ∷ us) ≡ steps v.image (world_of v k) ts
+        → AgreeBy v.live (steps v.image (world_of v k) (t ∷ us)) (steps v.image (world_of v k) ts)
         → IsEnd v.image (steps v.image (world_of v k) ts) → IsEnd v.image (steps v.image (world_of v e.step.to) us)
     same_end k t ts us e = end_on Handled (Named v.live) (Live v.live) (Asked v.live) (found_in v) (ground v live) k t ts us e.step
 
@@ -75,9 +75,11 @@ module _ (v : SpaceValue) (live : IsLive v.image v.live) (all : AllFollowed v) w
           | inl each ↦
               back_over k t (each t)
               (marked_from n (each t).step.to ts (omega (arith, few)) (each t).step.within
-              (same_end k t (t ∷ ts) ts (each t) below refl end))
+              (same_end k t (t ∷ ts) ts (each t) below
+              (agree_same v.live (steps v.image (world_of v k) (t ∷ ts)) (steps v.image (world_of v k) (t ∷ ts)) refl) end))
           | inr some ↦
-              let m = moved v.image (world_of v k) some.set some.first (t ∷ ts) end in
+              let on = moves_on Handled (Named v.live) (Live v.live) (Asked v.live) (found_in v) (ground v live) k below in
+              let m = moved (AgreeBy v.live) v.image (world_of v k) some.set some.first on (t ∷ ts) end in
               let e = some.taken m.step m.there in
               back_over k m.step e
               (marked_from n e.step.to m.others (omega (arith, few, m.one_less)) e.step.within

@@ -31,7 +31,8 @@ pub mod Following
 pub mod Explored
 pub mod FreeSteps
 pub mod QuietSteps
-pub mod UnseenSets
+pub mod UnreadPlaces
+mod UnseenSets
 -- Of crates below, passed on to callers.
 pub mod AgreeingEnds
 pub mod DeadRegisters

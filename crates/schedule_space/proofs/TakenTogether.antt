@@ -1,22 +1,25 @@
 -- Steps of a set that are taken together, and all where they do not lead on.
-use Rattle.std.proofs.Common.{◌≡◌, ℕ, ◌<◌, ◌⊎◌, inl, inr, refl, sym, subst, arith, List, Bool, true, false, ◌||◌, ◌&&◌}
+use Rattle.std.proofs.Common.{◌≡◌, ℕ, ◌<◌, inl, inr, refl, sym, subst, arith, List, Bool, true, false, ◌||◌, ◌&&◌}
 use Rattle.std.specs.Prelude.{Result, Ok, Err, OnOk, IsTrue}
 use Rattle.std.specs.List.{Contains}
 use Rattle.machine.specs.MachineValue.{MachineValue}
-use Rattle.processor.specs.World.{World, steps}
+use Rattle.processor.specs.World.{World}
 use Rattle.processor.specs.declared.steps.Step.{Step}
 use Rattle.image_file.specs.ImageValue.{ImageValue}
 use Rattle.waiting.specs.Running.{runs_in}
 use Rattle.touched_words.specs.TouchTables.{TouchValue}
-use Rattle.agreeing_ends.specs.FirstSets.{IsFirstSet}
+use Rattle.agreeing_ends.specs.SameFutures.Handlers.{may_have_handlers}
+use Rattle.world_keys.specs.DeadRegisters.Clearing.{LiveValue}
 use Rattle.first_sets.specs.ApartSets.{IsApartSet}
 use Rattle.first_sets.proofs.Apart.{first_apart}
 use Rattle.first_sets.proofs.Resting as rest
 use Rattle.schedule_space.specs.Spaces.{SpaceValue, count, schedule_of, world_of, machine_after}
 use Rattle.schedule_space.specs.Finding.{IsGrown, IsTaken, IsTakenTo, IsExpanded, HasRunning}
 use Rattle.schedule_space.specs.Followed.{IsTakenTogether}
-use Rattle.schedule_space.specs.Quiet.{IsUnseen, IsUnseenStep, IsTakenQuietly, IsFollowedQuietly, IsSomeTakenLater}
+use Rattle.schedule_space.specs.Quiet.{IsUnseen, IsTakenQuietly, IsFollowedQuietly, IsSomeTakenLater}
+use Rattle.schedule_space.specs.Tables.{AreTablesOf}
 use Rattle.schedule_space.specs.Chosen.{is_in, steps_in, steps_out}
+use Rattle.schedule_space.proofs.Agreeing.{Named, Live, Asked, ground}
 use Rattle.schedule_space.proofs.Chosen.{is_kept, kept_is, found_in, in_or_out, in_set}
 use Rattle.schedule_space.proofs.Growing.{world_grown, taken_grown, taken_still}
 use Rattle.schedule_space.proofs.UnseenSets.{unseen_after}
@@ -43,46 +46,64 @@ module _ (v w : SpaceValue) (from : ℕ) (g : IsGrown v w) (below : from < count
       (subst (λ (x : World). HasRunning x running) (sym (world_grown v w from g below)) runs)
       (λ t there. then_taken t (all t) (waits t there)))
 
-  -- where those of the others are that are of a set which is apart in the machine at the place, its steps are
-  pub by_set : (m : MachineValue) (tables : List TouchValue) (set : List Step)
-      → m ≡ machine_after v.image (schedule_of v from) → IsApartSet m.image tables m.world set
-      → AreAllTaken w from (steps_in set others) → IsTakenTogether w from
-  by_set m tables set is apart taken =
-      record {
-        set = set;
-        first =
-            subst (λ (x : MachineValue). IsFirstSet x.image x.world set) (machine_grown v w from m g below is)
-            (first_apart m.image tables m.world set apart);
-        taken = λ t there.
-            let on : IsTrue (runs_in (world_of v from) t) =
-            subst (λ (x : MachineValue). IsTrue (runs_in x.world t)) is
-            (member_runs m.image tables m.world set apart t there) in
-            then_taken t (λ inside. taken t (is_kept (is_in set) others t (found_in set t there) inside))
-            (waits t (runs t on));
-      }
+  -- Of a set that is apart in the machine at the place.
+  module _ (m : MachineValue) (tables : List TouchValue) (set : List Step)
+      (is : m ≡ machine_after v.image (schedule_of v from)) (of : AreTablesOf v.image v.live tables)
+      (apart : IsApartSet m.image tables m.world set) where
+    abbrev here : World
+    here = world_of w from
 
-  -- if one of them that nobody sees leads to a later place, they are taken quietly
-  pub quietly : (m : MachineValue) (tables : List TouchValue) (set : List Step)
-      → (is : m ≡ machine_after v.image (schedule_of v from)) → (apart : IsApartSet m.image tables m.world set)
-      → AreAllTaken w from (steps_in set others) → (looked_at : List Bool) (words : List ℕ) (unseen : List Step)
-      → ((t : Step) → Contains unseen t → Contains (steps_in set others) t)
-      → ((t : Step) → Contains unseen t → IsUnseen looked_at words m.image m.world t)
-      → IsSomeTakenLater w from unseen → IsTakenQuietly looked_at words w from
-  unfolding by_set
-  quietly m tables set is apart taken looked_at words unseen among none one =
-      let at = machine_grown v w from m g below is in
-      let inside : Contains set one.step =
-      in_set set one.step (kept_is (is_in set) others one.step (among one.step one.there)).1 in
-      record {
-        together = by_set m tables set is apart taken;
-        step = one.step;
-        there = inside;
-        taken = one.taken;
-        later = one.later;
-        unseen = λ us out.
-            subst (λ (x : MachineValue). IsUnseenStep looked_at words x.image (steps x.image x.world us) one.step) at
-            (unseen_after m.image tables m.world set apart one.step inside looked_at words (none one.step one.there) us out);
-      }
+    within : from < count w
+    within = omega (arith, below, g.more)
+
+    still : AreTablesOf w.image w.live tables
+    still =
+        subst (λ (l : LiveValue). AreTablesOf w.image l tables) (sym g.live)
+        (subst (λ (i : ImageValue). AreTablesOf i v.live tables) (sym g.image) of)
+
+    apart_here : IsApartSet w.image tables here set
+    apart_here =
+        subst (λ (x : MachineValue). IsApartSet x.image tables x.world set) (machine_grown v w from m g below is) apart
+
+    -- where those of the others are taken that are of the set, its steps are
+    pub by_set : AreAllTaken w from (steps_in set others) → IsTakenTogether w from
+    by_set taken =
+        record {
+          set = set;
+          first =
+              first_apart (IsTrue (may_have_handlers w.image)) (Named w.live) (Live w.live) (Asked w.live) w.image tables here
+              set (ground w still.live).closed ((ground w still.live).told from within) still.tell apart_here;
+          taken = λ t there.
+              let on : IsTrue (runs_in (world_of v from) t) =
+              subst (λ (x : MachineValue). IsTrue (runs_in x.world t)) is
+              (member_runs m.image tables m.world set apart t there) in
+              then_taken t (λ inside. taken t (is_kept (is_in set) others t (found_in set t there) inside))
+              (waits t (runs t on));
+        }
+
+    -- if one of them that nobody sees leads to a later place, they are taken quietly
+    pub quietly : AreAllTaken w from (steps_in set others) → (looked_at : List Bool) (words : List ℕ) (unseen : List Step)
+        → ((t : Step) → Contains unseen t → Contains (steps_in set others) t)
+        → ((t : Step) → Contains unseen t → IsUnseen looked_at words m.image m.world t)
+        → IsSomeTakenLater w from unseen → IsTakenQuietly looked_at words w from
+    unfolding by_set
+    quietly taken looked_at words unseen among none one =
+        let at = machine_grown v w from m g below is in
+        let inside : Contains set one.step =
+        in_set set one.step (kept_is (is_in set) others one.step (among one.step one.there)).1 in
+        let unseen_here : IsUnseen looked_at words w.image here one.step =
+        subst (λ (x : MachineValue). IsUnseen looked_at words x.image x.world one.step) at (none one.step one.there) in
+        record {
+          together = by_set taken;
+          step = one.step;
+          there = inside;
+          taken = one.taken;
+          later = one.later;
+          unseen =
+              unseen_after (IsTrue (may_have_handlers w.image)) (Named w.live) (Live w.live) (Asked w.live) w.image tables
+              here set (ground w still.live).closed ((ground w still.live).told from within) still.tell apart_here one.step
+              inside looked_at words unseen_here;
+        }
 
 -- where those of a set are taken first, and then the rest, all are
 pub all_in_two : (u w : SpaceValue) (from : ℕ) (set others : List Step) → IsGrown u w → from < count u

@@ -4,15 +4,17 @@ use Rattle.std.specs.List.{Contains}
 use Rattle.std.specs.Prelude.{ℕ, ◌<◌, ◌≤◌, ◌++◌, ◌⊎◌, List, length}
 use Rattle.processor.specs.World.{run}
 use Rattle.processor.specs.declared.steps.Step.{Step}
+use Rattle.world_keys.specs.DeadRegisters.Clearing.{AgreeBy}
 use Rattle.agreeing_ends.specs.FirstSets.{IsFirstSet}
 use Rattle.schedule_space.specs.Spaces.{SpaceValue, count, schedule_of, world_of, StandsFor, HasStandIn}
 use Rattle.schedule_space.specs.Reaching.{IsEnd, CanEnd}
 use Rattle.schedule_space.specs.Finding.{IsTaken, IsExpanded}
 
--- the steps of a set from the world at this place are taken, which can be taken before all others
+-- the steps of a set from the world at this place are taken, which can be taken before all others and lead to worlds that
+-- agree
 pub record IsTakenTogether (v : SpaceValue) (from : ℕ) : Type 0 where
   pub set : List Step
-  pub first : IsFirstSet v.image (world_of v from) set
+  pub first : IsFirstSet (AgreeBy v.live) v.image (world_of v from) set
   pub taken : (t : Step) → Contains set t → IsTaken v from t
 
 -- each step from the world at this place is taken, or those of a set that can be taken before all others

@@ -11,6 +11,7 @@ pub mod Before
 pub mod Finding
 pub mod Followed
 pub mod Quiet
+pub mod Tables
 pub mod Chosen
 -- Of crates below, passed on to callers.
 pub mod AgreeingEnds

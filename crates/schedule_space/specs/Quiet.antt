@@ -1,7 +1,7 @@
 -- Steps that nobody sees who looks at some places of a program and at some words alone, as claims do: what a stream does is
 -- seen while it runs and stands at one of these places. A list says of each place whether it is looked at; past its end none
 -- is. Words are named by their addresses.
-use Rattle.std.specs.Prelude.{◌≡◌, ◌≢◌, ℕ, ◌<◌, ◌/◌, ◌&&◌, ◌⊎◌, Bool, true, false, List, Some, slice_get, slice_index_or}
+use Rattle.std.specs.Prelude.{◌≡◌, ◌≢◌, ℕ, ◌<◌, ◌/◌, ◌&&◌, ◌⊎◌, Bool, false, List, Some, slice_get, slice_index_or}
 use Rattle.std.specs.List.{Contains}
 use Rattle.tag_memory.specs.Address.{address_of}
 use Rattle.tag_memory.specs.Answer.{answer}

@@ -10,8 +10,7 @@ ghost use Rattle.schedule_space.specs.Finding.{IsGrown, IsTaken, IsTakenTo, IsEx
 ghost use Rattle.schedule_space.specs.Finding.{HasNoEdge, HaveNoEdges, IsFullAt};
 ghost use Rattle.schedule_space.specs.Quiet.{IsTakenQuietly, IsFollowedQuietly, IsSomeTakenLater};
 ghost use Rattle.tag_memory.specs.Unforwarded.{IsUnforwarded};
-ghost use Rattle.touched_words.specs.ClosedTables.{IsClosedTable};
-ghost use Rattle.first_sets.specs.ApartSets.{table_at};
+ghost use Rattle.schedule_space.specs.Tables.{AreTablesOf};
 
 use crate::finding::{Found, Stop};
 use crate::kept_machines::KeptMachines;
@@ -62,8 +61,7 @@ impl<'i> Found<'i> {
         requires edges { (e : Edge) → Contains self.old.edges e → e.from < from }
         requires machines { AreKept self.old machines.old }
         requires settled { AreSettled self.old.image shortcuts.settled.now }
-        requires closed { shortcuts.by_sets ≡ true → (p : ℕ)
-            → IsClosedTable self.old.image.profile self.old.image.program (table_at shortcuts.tables.now p) }
+        requires tables { shortcuts.by_sets ≡ true → AreTablesOf self.old.image self.old.live shortcuts.tables.now }
         requires unforwarded { shortcuts.by_sets ≡ true → IsUnforwarded (world_of self.old from).memory }
         ensures grown { IsGrown self.old self.new }
         ensures expanding { IsExpanding self.new from most }
@@ -97,8 +95,7 @@ impl<'i> Found<'i> {
         requires once { AreAllDifferent running.now }
         requires new { HaveNoEdges self.old from running.now }
         requires settled { AreSettled self.old.image shortcuts.settled.now }
-        requires closed { shortcuts.by_sets ≡ true → (p : ℕ)
-            → IsClosedTable self.old.image.profile self.old.image.program (table_at shortcuts.tables.now p) }
+        requires tables { shortcuts.by_sets ≡ true → AreTablesOf self.old.image self.old.live shortcuts.tables.now }
         requires unforwarded { shortcuts.by_sets ≡ true → IsUnforwarded (world_of self.old from).memory }
         ensures grown { IsGrown self.old self.new }
         ensures expanding { IsExpanding self.new from most }

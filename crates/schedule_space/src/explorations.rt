@@ -11,8 +11,7 @@ ghost use Rattle.schedule_space.specs.Spaces.{AreAllApart, StandAlone, ShortestF
 ghost use Rattle.schedule_space.specs.Finding.{IsExpanded, NamesAll};
 ghost use Rattle.schedule_space.specs.Followed.{AllFollowed, HasAllEnds, HasShortestEnds, TellsWhetherAllEnd};
 ghost use Rattle.schedule_space.specs.Quiet.{AllFollowedQuietly};
-ghost use Rattle.touched_words.specs.ClosedTables.{IsClosedTable};
-ghost use Rattle.first_sets.specs.ApartSets.{table_at};
+ghost use Rattle.schedule_space.specs.Tables.{AreTablesOf};
 ghost use Rattle.schedule_space.specs.Answers.{space_in, is_complete, bound_in, most_places, IsFull};
 
 use crate::expanding::{Shortcuts, Wanted};
@@ -20,6 +19,7 @@ use crate::finding::{Found, Stop};
 use crate::kept_machines::KeptMachines;
 use crate::observations::Observation;
 use crate::spaces::Space;
+use crate::unread_places::unread_places;
 use crate::watches::{Bound, Watch};
 use agreeing_ends::local::settled_places;
 use first_sets::{may_forward, touch_tables};
@@ -173,7 +173,7 @@ fn search<'i, const S: usize, W: Watch>(
     let live = LiveRegisters::of(alloc, image, names)?;
     let settled = settled_places(alloc, image)?;
     let by_sets = takes_sets(image, wanted);
-    let tables = tables_if(alloc, image, by_sets)?;
+    let tables = tables_if(alloc, image, &live, by_sets)?;
     let shortcuts = Shortcuts {
         settled: &settled,
         observation,
@@ -209,13 +209,19 @@ fn takes_sets(image: &Image, wanted: Wanted) -> bool
     }
 }
 
-/// For each processor of an image what its streams may still ask for, where that is wanted; else no table.
-fn tables_if(alloc: Global, image: &Image, are_wanted: bool) -> Result<Vec<TouchTable>, AllocError>
-    ensures { IfOk result (λ ts. are_wanted ≡ true
-        → (p : ℕ) → IsClosedTable image.now.profile image.now.program (table_at ts.items p)) }
+/// For each processor of an image what its streams may still ask for, by what is live, where that is wanted; else no table.
+fn tables_if(
+    alloc: Global,
+    image: &Image,
+    live: &LiveRegisters,
+    are_wanted: bool,
+) -> Result<Vec<TouchTable>, AllocError>
+    requires { IsLive image.now live.now }
+    ensures { IfOk result (λ ts. are_wanted ≡ true → AreTablesOf image.now live.now ts.items) }
 {
     if are_wanted {
-        return touch_tables(alloc, image);
+        let unread = unread_places(alloc, image, live)?;
+        return touch_tables(alloc, image, &unread);
     }
     Ok(Vec::new(alloc))
 }

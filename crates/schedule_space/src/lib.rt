@@ -19,6 +19,7 @@ mod routes;
 mod spaces;
 mod stepping;
 mod together;
+mod unread_places;
 mod unseen;
 mod watches;
 

@@ -1,11 +1,11 @@
 //! Steps of a set that are taken together from a world, since they can be taken before all others.
 
-ghost use Rattle.std.specs.Prelude.{◌≡◌, ◌⊎◌, ℕ, Err, IfOk, OnOk};
+ghost use Rattle.std.specs.Prelude.{◌≡◌, ◌⊎◌, Err, IfOk, IfSome, OnOk};
 ghost use Rattle.std.specs.List.{Contains};
 ghost use Rattle.tag_memory.specs.Unforwarded.{IsUnforwarded};
 ghost use Rattle.processor.specs.declared.steps.Step.{Step};
-ghost use Rattle.touched_words.specs.ClosedTables.{IsClosedTable};
-ghost use Rattle.first_sets.specs.ApartSets.{table_at};
+ghost use Rattle.first_sets.specs.ApartSets.{IsApartSet};
+ghost use Rattle.schedule_space.specs.Tables.{AreTablesOf};
 ghost use Rattle.schedule_space.specs.Spaces.{world_of, AreAllDifferent};
 ghost use Rattle.schedule_space.specs.Kept.{AreKeptAt};
 ghost use Rattle.schedule_space.specs.Finding.{IsGrown, IsTaken, IsExpanding, HasRunning, HaveNoEdges, IsFullAt};
@@ -17,6 +17,7 @@ use crate::finding::{Found, Stop};
 use crate::kept_machines::KeptMachines;
 use crate::unseen::unseen_steps;
 use first_sets::apart_set;
+use machine::Machine;
 use processor::Step;
 use std::alloc::{AllocError, Global};
 
@@ -39,7 +40,7 @@ impl<'i> Found<'i> {
         requires new { HaveNoEdges self.old from others.now }
         requires running { HasRunning (world_of self.old from) running.now }
         requires waits { (t : Step) → Contains running.now t → IsTaken self.old from t ⊎ Contains others.now t }
-        requires closed { (p : ℕ) → IsClosedTable self.old.image.profile self.old.image.program (table_at shortcuts.tables.now p) }
+        requires tables { AreTablesOf self.old.image self.old.live shortcuts.tables.now }
         requires unforwarded { IsUnforwarded (world_of self.old from).memory }
         ensures grown { IsGrown self.old self.new }
         ensures expanding { IsExpanding self.new from most }
@@ -49,7 +50,7 @@ impl<'i> Found<'i> {
     {
         self.make_here(machines, from)?;
         let here = machines.here().unwrap();
-        let Some(set) = apart_set(self.alloc, here, shortcuts.tables, running)? else {
+        let Some(set) = set_with_unseen(self.alloc, here, running, others, shortcuts)? else {
             return self.take_all(machines, from, others, most);
         };
         let first = steps_in(self.alloc, &set, others)?;
@@ -61,6 +62,24 @@ impl<'i> Found<'i> {
         let rest = steps_out(self.alloc, &set, others)?;
         self.take_all(machines, from, &rest, most)
     }
+}
+
+/// A set of steps that is apart from those of all others, where one is found by the tables that has a step of `others` which
+/// is unseen.
+fn set_with_unseen<const S: usize>(
+    alloc: Global,
+    machine: &Machine<'_, S>,
+    running: &[Step],
+    others: &[Step],
+    shortcuts: Shortcuts<'_>,
+) -> Result<Option<Vec<Step>>, AllocError>
+    requires unforwarded { IsUnforwarded machine.now.world.memory }
+    requires running { HasRunning machine.now.world running.now }
+    ensures { IfOk result (λ o. IfSome o (λ set.
+        IsApartSet machine.now.image shortcuts.entry.tables.now machine.now.world set.items)) }
+{
+    let unseen = unseen_steps(alloc, machine, others, shortcuts.observation)?;
+    apart_set(alloc, machine, shortcuts.tables, running, &unseen)
 }
 
 /// Those of these steps that are of a set, in their order.

@@ -4,7 +4,9 @@ use Rattle.std.proofs.Common.{ℕ, ◌⊎◌, inl, inr, sym, ◌∙◌, ◌++◌
 use Rattle.std.specs.Prelude.{IsTrue}
 use Rattle.processor.specs.World.{World, run, steps}
 use Rattle.processor.specs.declared.steps.Step.{Step}
+use Rattle.processor.proofs.Histories.{steps-append}
 use Rattle.busy_streams.specs.SameFutures.Handlers.{may_have_handlers}
+use Rattle.busy_streams.specs.SameFutures.Links.{TellsHandlers}
 use Rattle.busy_streams.proofs.SameFutures.Chains.{schedules_agree}
 use Rattle.busy_streams.specs.DeadRegisters.Clearing.{IsLive, AgreeBy}
 use Rattle.busy_streams.specs.AgreeingEnds.Followed as found
@@ -32,10 +34,14 @@ module _ (v : SpaceValue) (claims : List Claim) (live : IsLive v.image v.live) (
 
   moving : IsMoving (AgreeBy v.live) (found_in v)
   moving = record {
-    on = λ k below w ts alike.
+    on = λ k below us w ts alike.
         schedules_agree v.image (IsTrue (may_have_handlers v.image)) (Named v.live) (Live v.live) (Asked v.live)
         (ground v live).closed ts
-        ((found_in v).world k) w ((ground v live).told k below) alike;
+        (steps v.image ((found_in v).world k) us) w
+        (λ vs.
+        subst (TellsHandlers (IsTrue (may_have_handlers v.image)))
+        (steps-append v.image ((found_in v).world k) us vs) ((ground v live).told k below (us ++ vs)))
+        alike;
   }
 
   respects : IsRespected (AgreeBy v.live) Holds

@@ -1,3 +1,4 @@
+mod OneOf
 mod Writing
 mod Asking
 mod Registers

@@ -1,7 +1,7 @@
 -- A stream that stands at a closed place stands at one after each step of its own, if it still runs.
 use Rattle.std.proofs.Common.{◌≡◌, ℕ, ◌+◌, ◌*◌, ◌%◌, ◌^◌, ◌==◌, ◌⊎◌, inl, inr, Bool, true, false, refl, sym, ap, ◌∙◌, subst}
-use Rattle.std.proofs.Common.{if◌then◌else◌, nat_lt, List, Option, Some, None, slice_get}
-use Rattle.std.specs.Prelude.{IsTrue, not, ◌||◌, ◌&&◌}
+use Rattle.std.proofs.Common.{if◌then◌else◌, nat_lt, Option, Some, None, slice_get}
+use Rattle.std.specs.Prelude.{not, ◌||◌, ◌&&◌}
 use Rattle.std.proofs.lemmas.Bool.{eq-eqb, or_right}
 use Rattle.insn_word.specs.declared.operations.WideOp.TheVariants as wide
 use Rattle.insn_word.specs.declared.insn.Insn.{Insn}
@@ -14,7 +14,7 @@ use Rattle.stream_core.specs.Registers.{target_at}
 use Rattle.stream_core.specs.Traps.{trap_number, memory_trap}
 use Rattle.stream_core.specs.Streams.{StreamValue, idle, no_handler, cannot_trap, after_trap, after_trap_if}
 use Rattle.stream_core.specs.Effects.{request_of, after_instruction}
-use Rattle.stream_core.specs.StreamRow.{fetch_of, fetch_word, control_of, control_from, control_at, after_blocked_reply, row_asking, row_from, stream_row}
+use Rattle.stream_core.specs.StreamRow.{fetch_word, control_of, control_from, control_at, after_blocked_reply, row_asking, row_from, stream_row}
 use Rattle.stream_core.specs.declared.status_words.StatusWord.{StatusWord}
 use Rattle.stream_core.specs.declared.traps.TrapKind.{TrapKind}
 use Rattle.stream_core.specs.declared.traps.TrapKind.TheVariants as kind
@@ -30,11 +30,11 @@ use Rattle.program_flow.specs.Agreement.{registers_over}
 use Rattle.program_flow.specs.Flow.{EndsStream, GoesTo}
 use Rattle.program_flow.proofs.Kept.{goes_on}
 use Rattle.local_steps.specs.NeverAsking.{ended_by, left_by, own_step, NeverAsks}
-use Rattle.local_steps.specs.SettledEndings.{is_settled, stands_settled, AreSettled}
+use Rattle.local_steps.specs.SettledEndings.{is_settled, stands_settled}
 use Rattle.local_steps.specs.CalmPlaces.{IsCalmAt, AreCalm}
 use Rattle.local_steps.proofs.Settled.{own_rest, kept_handler, runs_or_not, fetch_runs, are_settled, never_settled}
-use Rattle.touched_words.specs.TouchTables.{TouchValue, is_closed, known_at, marks_at, HoldsKnown}
-use Rattle.touched_words.specs.ClosedTables.{AreAmong, LeadsOn, IsClosedAt, IsClosedTable}
+use Rattle.touched_words.specs.TouchTables.{TouchValue, is_closed, known_at, HoldsKnown}
+use Rattle.touched_words.specs.ClosedTables.{IsClosedAt, IsClosedTable}
 use Rattle.touched_words.specs.Standing.{IsStanding, IsStandingFrom, IsHeldFrom}
 
 -- what holds of an idle stream and of the one that its instruction leaves holds also after an end
@@ -96,6 +96,7 @@ module _ (v : TouchValue) (k : ℕ) where
       stands = record { place = h.stands.place; known = h.stands.known; bare = h.stands.bare };
       touches = h.touches;
       changes = h.changes;
+      uses = h.uses;
     })
 
     either : (b : Bool) (x y : StreamValue × Outcome) → IsHeldFrom v k x.0 → IsHeldFrom v k y.0
@@ -131,6 +132,7 @@ module _ (v : TouchValue) (k : ℕ) where
             };
             touches = λ n marked. h.touches n (on.touches n marked);
             changes = λ n marked. h.changes n (on.changes n marked);
+            uses = λ n marked. h.uses n (on.uses n marked);
           }))
 
     asked : (limit : ℕ) (i : Insn) (r : Option Reply) (q : Option Request) → IsClosedAt v s.ssw.pc i

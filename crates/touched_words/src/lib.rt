@@ -1,6 +1,7 @@
 //! Which words of the memory a stream may still ask for, by its program alone (docs/LAB.md, "Every schedule").
 #![tactic(auto)]
 
+mod few;
 mod known_after;
 mod laws;
 mod named_requests;

@@ -4,8 +4,10 @@ ghost use Rattle.std.specs.Prelude.{◌≡◌, slice_index_or, IsTrue};
 ghost use Rattle.touched_words.specs.TouchTables.{is_closed, known_by, known_at, is_marked, marks_at};
 ghost use Rattle.touched_words.specs.ClosedTables.{AreAmong};
 
-/// What each register holds, where that is known.
-pub(crate) type KnownRow = [Option<u64>; 32];
+use crate::few::Few;
+
+/// What each register may hold, where that is known.
+pub(crate) type KnownRow = [Option<Few>; 32];
 
 /// How many words a table has at most.
 pub(crate) const MOST_WORDS: usize = 64;
@@ -24,7 +26,7 @@ pub(crate) fn is_closed(closed: &[bool], place: u32) -> bool
 }
 
 /// The row of a place; where there is none an empty one, by which nothing is known.
-pub(crate) fn known_at(known: &[KnownRow], place: u32) -> &[Option<u64>]
+pub(crate) fn known_at(known: &[KnownRow], place: u32) -> &[Option<Few>]
     ensures { result.now ≡ known_at known.now place }
 {
     match known.get(place as usize) {
@@ -33,8 +35,8 @@ pub(crate) fn known_at(known: &[KnownRow], place: u32) -> &[Option<u64>]
     }
 }
 
-/// What a register holds by a row, where that is known.
-pub(crate) fn known_by(row: &[Option<u64>], register: u8) -> Option<u64>
+/// What a register may hold by a row, where that is known.
+pub(crate) fn known_by(row: &[Option<Few>], register: u8) -> Option<Few>
     ensures { result ≡ known_by row.now register }
 {
     match row.get(usize::from(register)) {

@@ -1,20 +1,24 @@
 //! Whether a table is closed: what it says of a place is so wherever a stream goes on from there.
 
-ghost use Rattle.std.specs.Prelude.{◌≡◌, ◌⊎◌, ℕ, Some, IsTrue, slice_get};
+ghost use Rattle.std.specs.Prelude.{◌≡◌, ◌⊎◌, ◌/◌, ◌<◌, ℕ, true, Some, IsTrue, slice_get};
 ghost use Rattle.insn_word.specs.declared.insn.Insn.{Insn};
+ghost use Rattle.tag_memory.specs.Address.{address_of};
 ghost use Rattle.tag_memory.specs.declared.requests.Request.{Request};
+ghost use Rattle.stream_core.specs.Registers.{register_at};
 ghost use Rattle.stream_core.specs.Streams.{StreamValue};
 ghost use Rattle.stream_core.specs.Effects.{next_pc, request_by, request_of};
 ghost use Rattle.stream_core.specs.StreamRow.{fetch_word};
 ghost use Rattle.stream_core.specs.declared.steps.Fetch.TheVariants as fetch;
 ghost use Rattle.program_flow.specs.Agreement.{registers_over};
 ghost use Rattle.program_flow.specs.Flow.{GoesTo};
-ghost use Rattle.touched_words.specs.TouchTables.{known_at, HoldsKnown};
-ghost use Rattle.touched_words.specs.ClosedTables.{IsMarkedWord, IsNamed, LeadsOn, IsClosedAt, IsClosedTable};
+ghost use Rattle.touched_words.specs.declared.few.Few.{Few as AnyFew};
+ghost use Rattle.touched_words.specs.TouchTables.{known_at, IsOneOf, IsKnownWithin, HoldsKnown};
+ghost use Rattle.touched_words.specs.ClosedTables.{is_quiet_add, IsMarkedWord, IsNamed, LeadsOn, IsClosedAt, IsClosedTable};
 
 use super::TouchTable;
+use crate::few::Few;
 use crate::known_after::known_after;
-use crate::named_requests::{asked_word, forwards_none, may_change};
+use crate::named_requests::{adds, forwards_none, may_change, word_from};
 use crate::rows::{are_among, is_closed, is_marked, known_at, known_by, marks_at};
 use insn_word::{Condition, ControlOp, Insn, MPart, MemoryOp, Profile, decode_as};
 use local_steps::is_calm;
@@ -84,20 +88,63 @@ impl TouchTable {
             → IsNamed self.now place q }
     {
         let row = known_at(&self.known, place);
-        let Some(word) = asked_word(row, m) else {
+        let Some(bases) = known_by(row, m.base) else {
             return false;
         };
-        forwards_none(row, m) && self.marks_word(place, word, may_change(m))
+        let is_quiet = self.adds_quietly(place, row, m);
+        forwards_none(row, m) && self.names_words(place, m, bases, may_change(m), is_quiet)
     }
 
-    /// Whether a word is marked at a place, and marked as changed where that is asked.
-    fn marks_word(&self, place: u32, word: u64, is_changed: bool) -> bool
-        ensures { IsTrue result → IsMarkedWord self.now place word is_changed }
+    /// Whether each word that a memory operation at a place asks for from one of these bases is marked there.
+    fn names_words(
+        &self,
+        place: u32,
+        m: &MPart,
+        bases: Few,
+        is_changed: bool,
+        is_quiet: bool,
+    ) -> bool
+        ensures { IsTrue result → (s : StreamValue) (q : Request) → IsOneOf bases (register_at s.registers m.now.base)
+            → request_by s m.now m.now.op ≡ Some q
+            → IsMarkedWord self.now place (address_of q.pointer / 8) is_changed is_quiet }
+    {
+        self.names_from(place, m, bases.first, is_changed, is_quiet)
+            && self.names_from(place, m, bases.second, is_changed, is_quiet)
+            && self.names_from(place, m, bases.third, is_changed, is_quiet)
+            && self.names_from(place, m, bases.fourth, is_changed, is_quiet)
+    }
+
+    /// The same of one base.
+    fn names_from(&self, place: u32, m: &MPart, base: u64, is_changed: bool, is_quiet: bool) -> bool
+        ensures { IsTrue result → (s : StreamValue) (q : Request) → register_at s.registers m.now.base ≡ base
+            → request_by s m.now m.now.op ≡ Some q
+            → IsMarkedWord self.now place (address_of q.pointer / 8) is_changed is_quiet }
+    {
+        self.marks_word(place, word_from(base, m), is_changed, is_quiet)
+    }
+
+    /// Whether a memory operation at a place is an add that loads what nobody reads.
+    fn adds_quietly(&self, place: u32, row: &[Option<Few>], m: &MPart) -> bool
+        ensures { IsTrue result → (s : StreamValue) (q : Request) → HoldsKnown row.now s.registers
+            → request_by s m.now m.now.op ≡ Some q → is_quiet_add self.now place q ≡ true }
+    {
+        adds(row, m) && self.is_unread(place)
+    }
+
+    /// Whether a word is marked at a place, marked as changed where that is asked, and marked as used unless it is added
+    /// to quietly.
+    fn marks_word(&self, place: u32, word: u64, is_changed: bool, is_quiet: bool) -> bool
+        ensures { IsTrue result → IsMarkedWord self.now place word is_changed is_quiet }
     {
         let touches = marks_at(&self.touches, place);
         let changes = marks_at(&self.changes, place);
+        let uses = marks_at(&self.uses, place);
         for (at, named) in self.words.iter().enumerate() {
-            if *named == word && is_marked(touches, at) && (!is_changed || is_marked(changes, at)) {
+            if *named == word
+                && is_marked(touches, at)
+                && (!is_changed || is_marked(changes, at))
+                && (is_quiet || is_marked(uses, at))
+            {
                 return true;
             }
         }
@@ -148,11 +195,12 @@ impl TouchTable {
             )
             && are_among(marks_at(&self.touches, to), marks_at(&self.touches, place))
             && are_among(marks_at(&self.changes, to), marks_at(&self.changes, place))
+            && are_among(marks_at(&self.uses, to), marks_at(&self.uses, place))
     }
 }
 
 /// Whether registers hold what one row knows, after an instruction before which they hold what another one knows.
-fn covers_known(row: &[Option<u64>], insn: &Insn, to: &[Option<u64>]) -> bool
+fn covers_known(row: &[Option<Few>], insn: &Insn, to: &[Option<Few>]) -> bool
     ensures { IsTrue result → (s : StreamValue) (value grant : ℕ) → HoldsKnown row.now s.registers
         → HoldsKnown to.now (registers_over s insn.now value grant s.registers) }
 {
@@ -160,11 +208,34 @@ fn covers_known(row: &[Option<u64>], insn: &Insn, to: &[Option<u64>]) -> bool
         if register >= REGISTERS {
             return false;
         }
-        if known.is_some() && known_after(row, insn, register as u8) != *known {
+        if !covers_register(row, insn, register as u8, *known) {
             return false;
         }
     }
     true
+}
+
+/// The same of one register, of which this is to be known.
+fn covers_register(row: &[Option<Few>], insn: &Insn, register: u8, known: Option<Few>) -> bool
+    requires { register < 32 }
+    ensures { IsTrue result → (few : AnyFew) → known ≡ Some few → (s : StreamValue) (value grant : ℕ)
+        → HoldsKnown row.now s.registers
+        → IsOneOf few (register_at (registers_over s insn.now value grant s.registers) register) }
+{
+    match known {
+        None => true,
+        Some(few) => is_within(known_after(row, insn, register), few),
+    }
+}
+
+/// Whether some of these numbers are known to be what a register holds, and no others.
+fn is_within(known: Option<Few>, all: Few) -> bool
+    ensures { IsTrue result → IsKnownWithin known all }
+{
+    match known {
+        None => false,
+        Some(few) => few.is_among(all),
+    }
 }
 
 /// How many registers a stream has.

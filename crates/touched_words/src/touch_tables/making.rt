@@ -1,9 +1,10 @@
 //! A draft of a table, made by going through the program until nothing changes. Whether it is closed is found afterwards.
 
 use super::TouchTable;
+use crate::few::Few;
 use crate::known_after::known_after;
-use crate::named_requests::{asked_word, forwards_none, may_change};
-use crate::rows::{KnownRow, MOST_WORDS, WordRow};
+use crate::named_requests::{adds, forwards_none, may_change, word_from};
+use crate::rows::{KnownRow, MOST_WORDS, WordRow, known_by};
 use insn_word::{Condition, ControlOp, Insn, MPart, MemoryOp, Profile, WideOp, decode_as};
 use local_steps::is_calm;
 use program_flow::skipped;
@@ -25,6 +26,7 @@ struct DraftRow {
     known: KnownRow,
     touches: WordRow,
     changes: WordRow,
+    uses: WordRow,
 }
 
 /// A table in the making.
@@ -32,6 +34,7 @@ struct DraftRow {
 struct Draft<'p> {
     profile: Profile,
     program: &'p [u64],
+    unread: &'p [bool],
     words: Vec<u64>,
     rows: Vec<DraftRow>,
 }
@@ -43,8 +46,9 @@ impl TouchTable {
         profile: Profile,
         program: &[u64],
         entry: u32,
+        unread: &[bool],
     ) -> Result<TouchTable, AllocError> {
-        let mut draft = Draft::new(alloc, profile, program)?;
+        let mut draft = Draft::new(alloc, profile, program, unread)?;
         draft.begin_at(entry);
         for _ in 0..ROUNDS {
             if !draft.spread_known() {
@@ -63,7 +67,12 @@ impl TouchTable {
 
 impl<'p> Draft<'p> {
     /// A row for each word of the program, of which nothing is known; none where the program is too long.
-    fn new(alloc: Global, profile: Profile, program: &'p [u64]) -> Result<Draft<'p>, AllocError> {
+    fn new(
+        alloc: Global,
+        profile: Profile,
+        program: &'p [u64],
+        unread: &'p [bool],
+    ) -> Result<Draft<'p>, AllocError> {
         let mut rows = Vec::new(alloc);
         if program.len() <= MOST_PLACES {
             for _ in program {
@@ -72,12 +81,14 @@ impl<'p> Draft<'p> {
                     known: [None; 32],
                     touches: [false; MOST_WORDS],
                     changes: [false; MOST_WORDS],
+                    uses: [false; MOST_WORDS],
                 })?;
             }
         }
         Ok(Draft {
             profile,
             program,
+            unread,
             words: Vec::new(alloc),
             rows,
         })
@@ -90,7 +101,7 @@ impl<'p> Draft<'p> {
 
     /// Opens the places at which streams begin: the entry, and each that a TLIT names, where a CREATE may start one.
     fn begin_at(&mut self, entry: u32) {
-        self.join(entry, &[Some(0); 32]);
+        self.join(entry, &[Some(Few::one(0)); 32]);
         for place in 0..self.last_place() {
             if let Some(Insn::Wide { op, imm, .. }) = self.instruction_at(place)
                 && op == WideOp::TargetLiteral
@@ -176,37 +187,51 @@ impl<'p> Draft<'p> {
     /// The row of a place with its word marked; None where that is not known, or a stream is asked for.
     fn named_at(&mut self, place: u32, row: DraftRow) -> Result<Option<DraftRow>, AllocError> {
         match self.instruction_at(place) {
-            Some(insn) if is_calm(&insn) => self.named(row, &insn),
+            Some(insn) if is_calm(&insn) => self.named(place, row, &insn),
             Some(_) | None => Ok(None),
         }
     }
 
     /// The row of a place with the word marked that its instruction asks for; None where that is not known.
-    fn named(&mut self, row: DraftRow, insn: &Insn) -> Result<Option<DraftRow>, AllocError> {
+    fn named(
+        &mut self,
+        place: u32,
+        row: DraftRow,
+        insn: &Insn,
+    ) -> Result<Option<DraftRow>, AllocError> {
         match insn {
-            Insn::Normal { m, .. } if m.op != MemoryOp::Nop => self.with_word(row, m),
+            Insn::Normal { m, .. } if m.op != MemoryOp::Nop => self.with_word(place, row, m),
             Insn::Normal { .. } | Insn::Wide { .. } => Ok(Some(row)),
         }
     }
 
     /// The row with the word marked that a memory operation asks for; None where that is not known.
-    fn with_word(&mut self, row: DraftRow, m: &MPart) -> Result<Option<DraftRow>, AllocError> {
-        let Some(word) = asked_word(&row.known, m) else {
+    fn with_word(
+        &mut self,
+        place: u32,
+        row: DraftRow,
+        m: &MPart,
+    ) -> Result<Option<DraftRow>, AllocError> {
+        let Some(bases) = known_by(&row.known, m.base) else {
             return Ok(None);
         };
         if !forwards_none(&row.known, m) {
             return Ok(None);
         }
-        let at = self.number_of(word)?;
+        let is_used = !(adds(&row.known, m) && self.is_unread(place));
         let mut marked = row;
-        let Some(touched) = marked.touches.get_mut(at) else {
-            return Ok(None);
-        };
-        *touched = true;
-        if let Some(changed) = marked.changes.get_mut(at) {
-            *changed = may_change(m);
+        for base in [bases.first, bases.second, bases.third, bases.fourth] {
+            let at = self.number_of(word_from(base, m))?;
+            if !mark(&mut marked, at, may_change(m), is_used) {
+                return Ok(None);
+            }
         }
         Ok(Some(marked))
+    }
+
+    /// Whether nobody reads what the instruction at a place loads.
+    fn is_unread(&self, place: u32) -> bool {
+        self.unread.get(place as usize).copied().unwrap_or(false)
     }
 
     /// The number of a word, a new one where it has none. There may be more words than rows have marks.
@@ -257,7 +282,8 @@ impl<'p> Draft<'p> {
         };
         let is_touched = add_marks(&mut row.touches, &there.touches);
         let is_changed = add_marks(&mut row.changes, &there.changes);
-        is_touched || is_changed
+        let is_used = add_marks(&mut row.uses, &there.uses);
+        is_touched || is_changed || is_used
     }
 
     /// The table of these rows.
@@ -268,29 +294,52 @@ impl<'p> Draft<'p> {
             table.known.push(row.known)?;
             table.touches.push(row.touches)?;
             table.changes.push(row.changes)?;
+            table.uses.push(row.uses)?;
         }
         table.words = self.words;
+        table.unread = self.unread.to_vec(alloc)?;
         Ok(table)
     }
 }
 
 /// What is known of a stream that CREATE starts: r1 has a value, the others have 0.
 fn child_row() -> KnownRow {
-    let mut row: KnownRow = [Some(0); 32];
+    let mut row: KnownRow = [Some(Few::one(0)); 32];
     row[1] = None;
     row
 }
 
-/// Takes away what a row does not know alike, and says whether there was something.
+/// Adds to what a row knows what another one does, and says whether something has changed.
 fn join_known(known: &mut KnownRow, row: &KnownRow) -> bool {
     let mut changed = false;
     for (old, new) in known.iter_mut().zip(row.iter()) {
-        if old.is_some() && *old != *new {
-            *old = None;
+        let both = join(*old, *new);
+        if both != *old {
+            *old = both;
             changed = true;
         }
     }
     changed
+}
+
+/// What a register may hold by one row or another, where both know it and that is not too much.
+fn join(old: Option<Few>, new: Option<Few>) -> Option<Few> {
+    old?.with(new?)
+}
+
+/// Marks a word in a row, and says whether it has a mark there.
+fn mark(row: &mut DraftRow, at: usize, is_changed: bool, is_used: bool) -> bool {
+    let Some(touched) = row.touches.get_mut(at) else {
+        return false;
+    };
+    *touched = true;
+    if let Some(changed) = row.changes.get_mut(at) {
+        *changed = is_changed;
+    }
+    if let Some(used) = row.uses.get_mut(at) {
+        *used = is_used;
+    }
+    true
 }
 
 /// Marks in a row what is marked in another one, and says whether something has changed.

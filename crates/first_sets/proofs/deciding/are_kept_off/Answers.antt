@@ -10,17 +10,20 @@ loop-step-preserved g c =
     let first : Step = record { p = 0; s = 0 } in
     let n = c.loop-step.step-index in
     let last : ¬ (Contains c.args.set.now (get_or c.args.running.now n first))
-    → KeepsOff c.args.tables.now c.args.machine.now.world (get_or c.args.running.now n first) c.args.request.now =
+    → KeepsOff c.args.tables.now c.args.machine.now.world (get_or c.args.running.now n first) c.args.is_quiet
+    c.args.request.now =
     search rules in
     one_more
-    (λ (u : Step). ¬ (Contains c.args.set.now u) → KeepsOff c.args.tables.now c.args.machine.now.world u c.args.request.now)
+    (λ (u : Step). ¬ (Contains c.args.set.now u) → KeepsOff c.args.tables.now c.args.machine.now.world u c.args.is_quiet
+    c.args.request.now)
     c.args.running.now n first (omega arith) c.loop-step.invariant last
 
 pub returns : goal.returns
 returns g c =
     λ yes.
-    all_keep_off c.args.tables.now c.args.machine.now.world c.args.running.now c.args.set.now c.args.request.now
-    c.requires.running
+    all_keep_off c.args.tables.now c.args.machine.now.world c.args.running.now c.args.set.now c.args.is_quiet
+    c.args.request.now c.requires.running
     (each_one
-    (λ (u : Step). ¬ (Contains c.args.set.now u) → KeepsOff c.args.tables.now c.args.machine.now.world u c.args.request.now)
+    (λ (u : Step). ¬ (Contains c.args.set.now u) → KeepsOff c.args.tables.now c.args.machine.now.world u c.args.is_quiet
+    c.args.request.now)
     c.args.running.now c.loop-step.step-index (omega arith) c.loop-step.invariant)

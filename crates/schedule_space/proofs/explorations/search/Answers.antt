@@ -1,10 +1,8 @@
-use Rattle.std.proofs.Common.{◌≡◌, ℕ, ◌<◌, sym, ap, ◌∙◌, subst, arith, rules, true, false, List, length}
+use Rattle.std.proofs.Common.{◌≡◌, ◌<◌, sym, ap, ◌∙◌, subst, arith, rules, true, false, List, length}
 use Rattle.std.specs.Result.{is_err}
 use Rattle.std.specs.List.{Contains}
 use Rattle.tag_memory.specs.Unforwarded.{IsUnforwarded}
 use Rattle.touched_words.specs.TouchTables.{TouchValue}
-use Rattle.touched_words.specs.ClosedTables.{IsClosedTable}
-use Rattle.first_sets.specs.ApartSets.{table_at}
 use Rattle.schedule_space.specs.declared.links.Edge.{Edge}
 use Rattle.image_file.specs.ImageValue.{ImageValue}
 use Rattle.machine.specs.MachineValue.{MachineValue}
@@ -14,6 +12,7 @@ use Rattle.agreeing_ends.specs.LocalSteps.SettledEndings.{AreSettled}
 use Rattle.schedule_space.specs.Spaces.{SpaceValue, count, schedule_of, world_of}
 use Rattle.schedule_space.specs.Finding.{IsExpanded, IsExpanding}
 use Rattle.schedule_space.specs.Kept.{AreKept}
+use Rattle.schedule_space.specs.Tables.{AreTablesOf}
 use Rattle.schedule_space.proofs.Breadth.{breadth_begun, breadth_next, shortest_all}
 use Rattle.schedule_space.specs.Quiet.{IsFollowedQuietly}
 use Rattle.schedule_space.proofs.Growing.{grown_refl}
@@ -46,6 +45,12 @@ loop-from-init g c =
           ap (λ (x : SpaceValue). x.image) is ∙ ap (λ (m : MachineValue). m.image) (c.run.ensures ∙ ap (λ (m : MachineValue). record m { world = steps m.image m.world begin }) c.in_ok-first.ensures.is);
       begin = ap (λ (x : SpaceValue). x.begin) is;
       names = ap (λ (x : SpaceValue). x.live.names) is ∙ c.in_ok-live.ensures.names;
+      tables = λ on.
+          subst (λ (ts : List TouchValue). AreTablesOf v.image v.live ts) (sym c.deref-2.ensures.value)
+          (subst (λ (x : SpaceValue). AreTablesOf x.image x.live c.in_ok-tables.tables.items) (sym is)
+          (subst (λ (i : ImageValue). AreTablesOf i c.in_ok-live.live c.in_ok-tables.tables.items)
+          (sym (ap (λ (m : MachineValue). m.image) (c.run.ensures ∙ ap (λ (m : MachineValue). record m { world = steps m.image m.world begin }) c.in_ok-first.ensures.is)))
+          (c.in_ok-tables.ensures on)));
       expanded = λ _ k below. absurd (omega arith);
       quiet = λ k below. absurd (omega arith);
       inside = omega arith;
@@ -75,13 +80,8 @@ expand-expanded-requires g c =
     subst (AreSettled v.image) (sym c.deref.ensures.value)
     (subst (λ (i : ImageValue). AreSettled i c.in_ok-settled.settled.items) (sym c.loop-from.invariant.image)
     c.in_ok-settled.ensures) in
-    let closed : c.takes_sets-by_sets.result ≡ true → (p : ℕ)
-    → IsClosedTable v.image.profile v.image.program (table_at c.deref-2.result.now p) =
-    λ on.
-    subst (λ (ts : List TouchValue). (p : ℕ) → IsClosedTable v.image.profile v.image.program (table_at ts p))
-    (sym c.deref-2.ensures.value)
-    (subst (λ (i : ImageValue). (p : ℕ) → IsClosedTable i.profile i.program (table_at c.in_ok-tables.tables.items p))
-    (sym c.loop-from.invariant.image) (c.in_ok-tables.ensures on)) in
+    let tables : c.takes_sets-by_sets.result ≡ true → AreTablesOf v.image v.live c.deref-2.result.now =
+    c.loop-from.invariant.tables in
     let unforwarded : c.takes_sets-by_sets.result ≡ true → IsUnforwarded (world_of v n).memory =
     λ on.
     subst (λ (i : ImageValue). IsUnforwarded (run i (schedule_of v n)).memory) (sym c.loop-from.invariant.image)
@@ -187,6 +187,10 @@ loop-from-preserved g c =
       image = c.expand-expanded.ensures.grown.image ∙ c.loop-from.invariant.image;
       begin = c.expand-expanded.ensures.grown.begin ∙ c.loop-from.invariant.begin;
       names = ap (λ (l : LiveValue). l.names) c.expand-expanded.ensures.grown.live ∙ c.loop-from.invariant.names;
+      tables = λ on.
+          subst (λ (l : LiveValue). AreTablesOf new.image l c.deref-2.result.now) (sym c.expand-expanded.ensures.grown.live)
+          (subst (λ (i : ImageValue). AreTablesOf i old.live c.deref-2.result.now) (sym c.expand-expanded.ensures.grown.image)
+          (c.loop-from.invariant.tables on));
       expanded = λ on.
           expanded_more old new n c.expand-expanded.ensures.grown below (c.loop-from.invariant.expanded on)
           (ended_well c.expand-expanded.result (IsExpanded new n) well (c.expand-expanded.ensures.expanded on));

@@ -5,9 +5,6 @@ use Rattle.tag_memory.specs.Address.{address_of}
 use Rattle.tag_memory.specs.Answer.{answer}
 use Rattle.tag_memory.specs.ReadRequests.{may_change}
 use Rattle.tag_memory.specs.declared.requests.Request.{Request}
-use Rattle.tag_memory.specs.declared.requests.Reply.{Reply}
-use Rattle.image_file.specs.ImageValue.{ImageValue}
-use Rattle.stream_core.specs.Streams.{StreamValue}
 use Rattle.stream_core.specs.StreamRow.{plan_of}
 use Rattle.stream_core.specs.declared.steps.Plan.TheVariants as plan
 use Rattle.first_sets.specs.LocalSteps.NeverAsking.{own_step}

@@ -1,4 +1,4 @@
-use Rattle.std.proofs.Common.{◌≡◌, sym, ap, ◌∙◌, subst, arith, get_or, List}
+use Rattle.std.proofs.Common.{sym, ap, ◌∙◌, subst, arith, get_or, List}
 use Rattle.std.specs.List.{Contains}
 use Rattle.std.proofs.lemmas.List.Elements.{Contains-get_or}
 use Rattle.processor.specs.declared.steps.Step.{Step}

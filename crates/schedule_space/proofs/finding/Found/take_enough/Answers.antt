@@ -1,14 +1,14 @@
-use Rattle.std.proofs.Common.{inr, ◌≡◌, ℕ, sym, arith, rules, refl, subst, get_or}
+use Rattle.std.proofs.Common.{inr, ◌≡◌, sym, arith, rules, refl, subst, get_or}
 use Rattle.std.specs.Prelude.{OnOk, List}
 use Rattle.std.specs.List.{Contains}
 use Rattle.tag_memory.specs.Unforwarded.{IsUnforwarded}
 use Rattle.image_file.specs.ImageValue.{ImageValue}
 use Rattle.processor.specs.World.{World}
 use Rattle.processor.specs.declared.steps.Step.{Step}
-use Rattle.touched_words.specs.ClosedTables.{IsClosedTable}
-use Rattle.first_sets.specs.ApartSets.{table_at}
+use Rattle.world_keys.specs.DeadRegisters.Clearing.{LiveValue}
 use Rattle.agreeing_ends.specs.LocalSteps.SettledEndings.{AreSettled}
 use Rattle.schedule_space.specs.Kept.{AreKeptAt}
+use Rattle.schedule_space.specs.Tables.{AreTablesOf}
 use Rattle.schedule_space.specs.Spaces.{world_of, AreAllDifferent}
 use Rattle.schedule_space.specs.Finding.{IsExpanding, HasNoEdge, HaveNoEdges, HasRunning}
 use Rattle.schedule_space.proofs.Different.{different_same, no_edges_at, no_edges_next, waiting_none, waiting_next}
@@ -102,9 +102,10 @@ take_set_or_all-requires g c =
     let waits : (t : Step) → Contains ts t → IsTakenOrWaits v from c.deref.result.now t =
     subst (λ (os : List Step). (t : Step) → Contains ts t → IsTakenOrWaits v from os t) (sym c.deref.ensures.value)
     (each_waits v from c.loop-step.step-index others ts (omega arith) c.loop-step.invariant.waits) in
-    let closed : (p : ℕ) → IsClosedTable v.image.profile v.image.program (table_at c.args.shortcuts.tables.now p) =
-    subst (λ (i : ImageValue). (p : ℕ) → IsClosedTable i.profile i.program (table_at c.args.shortcuts.tables.now p))
-    (sym grown.image) (c.requires.closed c.if-shortcuts.true) in
+    let tables : AreTablesOf v.image v.live c.args.shortcuts.tables.now =
+    subst (λ (l : LiveValue). AreTablesOf v.image l c.args.shortcuts.tables.now) (sym grown.live)
+    (subst (λ (i : ImageValue). AreTablesOf i u.live c.args.shortcuts.tables.now) (sym grown.image)
+    (c.requires.tables c.if-shortcuts.true)) in
     let unforwarded : IsUnforwarded (world_of v from).memory =
     subst (λ (x : World). IsUnforwarded x.memory) (sym same) (c.requires.unforwarded c.if-shortcuts.true) in
     search rules

@@ -1,10 +1,9 @@
-use Rattle.std.proofs.Common.{◌≡◌, ℕ, ◌∙◌, inr, sym, ap, subst, rules, List}
+use Rattle.std.proofs.Common.{◌≡◌, ◌∙◌, inr, sym, ap, subst, rules, List}
 use Rattle.std.specs.List.{Contains}
 use Rattle.machine.specs.MachineValue.{MachineValue}
 use Rattle.tag_memory.specs.Unforwarded.{IsUnforwarded}
 use Rattle.processor.specs.declared.steps.Step.{Step}
-use Rattle.touched_words.specs.ClosedTables.{IsClosedTable}
-use Rattle.first_sets.specs.ApartSets.{table_at, IsApartSet}
+use Rattle.first_sets.specs.ApartSets.{IsApartSet}
 use Rattle.schedule_space.specs.Spaces.{schedule_of, machine_after, AreAllDifferent}
 use Rattle.schedule_space.specs.Finding.{IsGrown, HasRunning, HaveNoEdges, IsExpanding}
 use Rattle.schedule_space.specs.Kept.{AreKeptAt}
@@ -17,17 +16,14 @@ use Rattle.schedule_space.proofs.Taking.{AreAllTaken}
 use Rattle.schedule_space.proofs.TakenTogether.{all_by_others, quietly, all_in_two, followed_on}
 use Rattle.schedule_space.proofs.finding.Found.take_set_or_all.Goals as goal
 
-pub apart_set-requires : goal.apart_set-requires
-apart_set-requires g c =
+pub set_with_unseen-requires : goal.set_with_unseen-requires
+set_with_unseen-requires g c =
     let v = c.args.self.now in
     let from = c.args.from in
     let at =
     lent_is c.here.result c.unwrap-here.result c.make_here.new.machines.here (machine_after v.image (schedule_of v from))
     c.here.ensures c.unwrap-here.ensures c.in_ok-make_here.ensures.made in
     let m = c.unwrap-here.result.now in
-    let closed : (p : ℕ) → IsClosedTable m.image.profile m.image.program (table_at c.args.shortcuts.tables.now p) =
-    subst (λ (x : MachineValue). (p : ℕ) → IsClosedTable x.image.profile x.image.program (table_at c.args.shortcuts.tables.now p))
-    (sym at) c.requires.closed in
     let unforwarded : IsUnforwarded m.world.memory =
     subst (λ (x : MachineValue). IsUnforwarded x.world.memory) (sym at) c.requires.unforwarded in
     let running : HasRunning m.world c.args.running.now =
@@ -83,7 +79,7 @@ returns-then-is_later-clause-quiet g c =
     → IsUnseen c.args.shortcuts.observation.places.now c.args.shortcuts.observation.words.now m.image m.world t =
     λ t there. c.in_ok-unseen.ensures.unseen t (subst (λ (ts : List Step). Contains ts t) c.deref-4.ensures.value there) in
     inr (quietly v w from c.take_each.ensures.grown c.requires.expanding.there c.args.running.now others c.requires.running
-    c.requires.waits m c.args.shortcuts.tables.now set at apart taken c.args.shortcuts.observation.places.now
+    c.requires.waits m c.args.shortcuts.tables.now set at c.requires.tables apart taken c.args.shortcuts.observation.places.now
     c.args.shortcuts.observation.words.now c.deref-4.result.now among none (c.in_ok-is_later.ensures.later c.if-is_later.true))
 
 pub take_all-requires-2 : goal.take_all-requires-2

@@ -1,4 +1,4 @@
-use Rattle.std.proofs.Common.{rules, ◌≡◌, ◌∙◌, ap, subst, w8, to_z, of_z, to_z-of_z}
+use Rattle.std.proofs.Common.{rules, ◌≡◌, ◌∙◌, ap, subst, w8, to_z, of_z}
 use Rattle.stream_core.specs.Effects.{skip_pc}
 use Rattle.touched_words.specs.ClosedTables.{LeadsOn}
 use Rattle.touched_words.proofs.Leading.{skip_leads}

@@ -1,11 +1,12 @@
 -- Streams whose instruction loads what nobody reads.
-use Rattle.std.specs.Prelude.{◌≡◌, ℕ}
+use Rattle.std.specs.Prelude.{◌≡◌, ℕ, Bool, false, List, IsTrue, slice_get, slice_index_or}
 use Rattle.insn_word.specs.Words.{memory_destination}
+use Rattle.insn_word.specs.declared.profiles.Profile.{Profile}
 use Rattle.insn_word.specs.declared.insn.Insn.{Insn}
 use Rattle.insn_word.specs.declared.insn.Insn.TheVariants.{Wide, Normal}
 use Rattle.image_file.specs.ImageValue.{ImageValue}
 use Rattle.stream_core.specs.Streams.{StreamValue}
-use Rattle.stream_core.specs.StreamRow.{fetch_of}
+use Rattle.stream_core.specs.StreamRow.{fetch_of, fetch_word}
 use Rattle.stream_core.specs.declared.steps.Fetch.TheVariants as fetch
 use Rattle.program_flow.specs.Flow.{GoesTo}
 
@@ -23,3 +24,9 @@ pub record IsUnread (named : ℕ → Type 0) (live : ℕ → ℕ → Type 0) (i 
 abbrev pub IsUnreadBy : ImageValue → (ℕ → Type 0) → (ℕ → ℕ → Type 0) → StreamValue → Type 0
 IsUnreadBy image named live s =
     (i : Insn) → fetch_of image.profile image.program s ≡ fetch.Instruction i → IsUnread named live i s.ssw.pc
+
+-- Of each place that is marked nobody reads what the instruction there loads.
+abbrev pub AreUnreadPlaces : (ℕ → Type 0) → (ℕ → ℕ → Type 0) → Profile → List ℕ → List Bool → Type 0
+AreUnreadPlaces named live profile program marks =
+    (k : ℕ) (i : Insn) → IsTrue (slice_index_or marks k false)
+    → fetch_word profile (slice_get program k) ≡ fetch.Instruction i → IsUnread named live i k

@@ -1,6 +1,6 @@
 use Rattle.std.specs.Prelude.{IsTrue}
-use Rattle.unread_loads.proofs.laws.unread_loads_agree.Goals as goal
-use Rattle.unread_loads.proofs.Orders.{both_orders}
+use Rattle.first_sets.proofs.unread_loads.unread_loads_agree.Goals as goal
+use Rattle.first_sets.proofs.Orders.{both_orders}
 
 pub returns : goal.returns
 returns c image named live asked =

@@ -29,8 +29,8 @@ use Rattle.program_flow.proofs.Kept.{goes_on}
 use Rattle.program_flow.proofs.Writes.{Same, same_or_other, sizes_with, kept_with}
 use Rattle.local_steps.specs.NeverAsking.{AsksForNone, left_by}
 use Rattle.commuting_requests.proofs.Leaving.{left_after}
-use Rattle.unread_loads.specs.Pairs.{AreAlike}
-use Rattle.unread_loads.specs.UnreadLoads.{IsUnread}
+use Rattle.tag_memory.specs.Adds.{AreAlike}
+use Rattle.first_sets.specs.UnreadLoads.{IsUnread}
 
 size_with : (rs : List ℕ) (d v : ℕ) → length (with_register rs d v) ≡ length rs
 size_with rs d v = by (d == 0) where

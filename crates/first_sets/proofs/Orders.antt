@@ -19,14 +19,14 @@ use Rattle.processor.specs.declared.steps.Step.{Step}
 use Rattle.program_flow.specs.Agreeing.{StreamsAgree}
 use Rattle.local_steps.specs.NeverAsking.{left_by}
 use Rattle.local_steps.proofs.Commuting.{there_same, there_other}
-use Rattle.same_futures.specs.Links.{WorldsAgree}
-use Rattle.same_futures.proofs.Chains.{agree_link, agree_next}
+use Rattle.agreeing_ends.specs.SameFutures.Links.{WorldsAgree}
+use Rattle.agreeing_ends.proofs.SameFutures.Chains.{agree_link, agree_next}
 use Rattle.commuting_requests.specs.RequestSteps.{IsRequestStep}
 use Rattle.commuting_requests.proofs.Leaving.{left_after, put_left, into, put_both}
 use Rattle.commuting_requests.proofs.Swapping.{apart_of, one_processor, both_beside, both_beyond}
-use Rattle.unread_loads.specs.Pairs.{AreAlike, DoCommuteButForNumbers}
-use Rattle.unread_loads.specs.UnreadLoads.{IsUnreadBy}
-use Rattle.unread_loads.proofs.LoadedNumbers.{runs_of, AreLeftAlike, left_alike}
+use Rattle.tag_memory.specs.Adds.{AreAlike, DoCommuteButForNumbers}
+use Rattle.first_sets.specs.UnreadLoads.{IsUnreadBy}
+use Rattle.first_sets.proofs.LoadedNumbers.{runs_of, AreLeftAlike, left_alike}
 
 alike_back : (x y : Reply) → AreAlike x y → AreAlike y x
 alike_back x y (inl same) = inl (sym same)

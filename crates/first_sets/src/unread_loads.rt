@@ -6,10 +6,10 @@ ghost use Rattle.image_file.specs.ImageValue.{ImageValue};
 ghost use Rattle.stream_core.specs.Streams.{StreamValue};
 ghost use Rattle.processor.specs.World.{World, after};
 ghost use Rattle.processor.specs.declared.steps.Step.{Step};
-ghost use Rattle.same_futures.specs.Links.{WorldsAgree};
+ghost use Rattle.agreeing_ends.specs.SameFutures.Links.{WorldsAgree};
 ghost use Rattle.commuting_requests.specs.RequestSteps.{IsRequestStep};
-ghost use Rattle.unread_loads.specs.Pairs.{DoCommuteButForNumbers};
-ghost use Rattle.unread_loads.specs.UnreadLoads.{IsUnreadBy};
+ghost use Rattle.tag_memory.specs.Adds.{DoCommuteButForNumbers};
+ghost use Rattle.first_sets.specs.UnreadLoads.{IsUnreadBy};
 
 /// Two steps of different streams come to worlds that agree in both orders where their requests commute but for the
 /// numbers that they load, and nobody reads these: the worlds differ in these two registers alone.

@@ -1,2 +1,0 @@
-pub mod LoadedNumbers
-pub mod Orders
